@@ -37,7 +37,10 @@ fn show_cut<W: fmt::Write>(rest: &[u8], f: &mut fmt::Formatter<W>) -> fmt::Resul
     let there = rest.len();
     match whole_len(rest) {
         Some(whole) => write!(f, "{there} of its {whole} octets are there"),
-        None => write!(f, "{there} octets are there, and its size stands before octet {HEAD}"),
+        None => write!(
+            f,
+            "{there} octets are there, and its size stands before octet {HEAD}"
+        ),
     }
 }
 

@@ -9,6 +9,7 @@ pub const HEAD: usize = 7;
 
 // The least octets of the payload of a content header, and of a method.
 const LEAST_HEADER: u32 = 14;
+
 const LEAST_METHOD: u32 = 4;
 
 // The octet with which a frame ends.
@@ -20,13 +21,19 @@ pub enum Cause {
     /// No frame begins with this octet.
     Type(u8),
     /// The octet `at` of what begins as a protocol header does is this one.
-    Signature { at: u64, octet: u8 },
+    Signature {
+        at: u64,
+        octet: u8,
+    },
     /// No frame has as many octets as this size.
     Size(u32),
     /// A heartbeat has a payload of so many octets.
     HeartbeatPayload(u32),
     /// The frame has this size, so that its last octet stands `at`, and it is not `ce`.
-    End { at: u64, octet: u8 },
+    End {
+        at: u64,
+        octet: u8,
+    },
     /// A heartbeat is on this channel, which is not 0.
     HeartbeatChannel(ChannelId),
     /// The payload of a content header has so few octets.
@@ -36,7 +43,11 @@ pub enum Cause {
     /// The class connection or channel, the first number, has no such method.
     UnknownMethod(u16, u16),
     /// The argument of this method that begins `at` goes on behind the frame's end.
-    ArgumentsShort { class: u16, method: u16, at: u64 },
+    ArgumentsShort {
+        class: u16,
+        method: u16,
+        at: u64,
+    },
     /// The arguments of this method end `at`, and so many octets more stand before the frame's end.
     ArgumentsLong {
         class: u16,
@@ -102,12 +113,7 @@ fn behind(argument: Argument, octets: &[u8]) -> Option<&[u8]> {
 }
 
 // What is wrong with the arguments of a method, which stand in its payload behind both numbers.
-fn arguments(
-    class: u16,
-    method: u16,
-    wanted: &[Argument],
-    octets: &[u8],
-) -> Cause {
+fn arguments(class: u16, method: u16, wanted: &[Argument], octets: &[u8]) -> Cause {
     let first = HEAD + LEAST_METHOD as usize;
     let mut rest = octets;
     for argument in wanted {
@@ -207,10 +213,7 @@ pub struct CauseAt {
 }
 
 // The arguments of a method that are not as they have to be.
-fn show_arguments<W: fmt::Write>(
-    cause: CauseAt,
-    f: &mut fmt::Formatter<W>,
-) -> fmt::Result {
+fn show_arguments<W: fmt::Write>(cause: CauseAt, f: &mut fmt::Formatter<W>) -> fmt::Result {
     let place = cause.place;
     match cause.cause {
         Cause::ArgumentsShort { class, method, at } => {
@@ -231,12 +234,15 @@ fn show_arguments<W: fmt::Write>(
             let byte = place.saturating_add(at);
             write!(
                 f,
-                "the arguments of {name} ({class}.{method}) end before byte {byte}, and the frame has {more} octets more"
+                "the arguments of {name} ({class}.{method}) end before byte {byte}, and {more} octets more are there"
             )
         }
         Cause::Table(class, method) => {
             let name = method_name(class, method);
-            write!(f, "a table in the arguments of {name} ({class}.{method}) is none")
+            write!(
+                f,
+                "a table in the arguments of {name} ({class}.{method}) is none"
+            )
         }
         _ => Ok(()),
     }
@@ -254,21 +260,33 @@ impl fmt::Display for CauseAt {
             }
             Cause::Signature { at, octet } => {
                 let byte = place.saturating_add(at);
-                write!(f, "at byte {byte} stands {octet:02x}, and a protocol header begins with AMQP")
+                write!(
+                    f,
+                    "at byte {byte} stands {octet:02x}, and a protocol header begins with AMQP"
+                )
             }
             Cause::Size(size) => write!(f, "no frame has as many octets as {size}"),
             Cause::HeartbeatPayload(size) => {
-                write!(f, "a heartbeat has no payload, and this one has {size} octets")
+                write!(
+                    f,
+                    "a heartbeat has no payload, and this one has {size} octets"
+                )
             }
             Cause::End { at, octet } => {
                 let byte = place.saturating_add(at);
-                write!(f, "at byte {byte} stands {octet:02x}, and the frame ends there, with ce")
+                write!(
+                    f,
+                    "at byte {byte} stands {octet:02x}, and the frame ends there, with ce"
+                )
             }
             Cause::HeartbeatChannel(channel) => {
                 write!(f, "a heartbeat stands on channel 0, and not on {channel}")
             }
             Cause::ShortHeader(size) => {
-                write!(f, "a content header has 14 octets at least, and this one has {size}")
+                write!(
+                    f,
+                    "a content header has 14 octets at least, and this one has {size}"
+                )
             }
             Cause::ShortMethod(size) => {
                 write!(f, "a method has 4 octets at least, and this one has {size}")

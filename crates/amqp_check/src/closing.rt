@@ -38,7 +38,8 @@ pub fn closing_in(frame: Frame, number: u64, place: u64) -> Option<Closing> {
     match frame {
         Frame::Method(
             channel,
-            Method::Close(code, text, class, method) | Method::ChannelClose(code, text, class, method),
+            Method::Close(code, text, class, method)
+            | Method::ChannelClose(code, text, class, method),
         ) => Some(Closing {
             number,
             place,
@@ -94,8 +95,14 @@ impl fmt::Display for Closing {
     fn fmt<W: fmt::Write>(&self, f: &mut fmt::Formatter<W>) -> fmt::Result {
         let (number, code, channel) = (self.number, self.code, self.channel);
         match channel {
-            0 => write!(f, "the server closed the connection in its frame {number}: {code} ")?,
-            _ => write!(f, "the server closed channel {channel} in its frame {number}: {code} ")?,
+            0 => write!(
+                f,
+                "the server closed the connection in its frame {number}: {code} "
+            )?,
+            _ => write!(
+                f,
+                "the server closed channel {channel} in its frame {number}: {code} "
+            )?,
         }
         show_text(self.text.as_bytes(), f)?;
         match (self.class, self.method) {

@@ -134,7 +134,8 @@ fn show_said<W: fmt::Write>(finding: &Finding, f: &mut fmt::Formatter<W>) -> fmt
 fn is_of_connection(frame: &Frame) -> bool {
     match frame {
         Frame::ProtocolHeader(_) | Frame::Heartbeat => true,
-        Frame::Method(channel, method) => *channel == 0 && name_of(method).starts_with("connection"),
+        Frame::Method(channel, method) => *channel == 0
+            && name_of(method).starts_with("connection"),
         Frame::Raw(..) => false,
     }
 }

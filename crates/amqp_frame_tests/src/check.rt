@@ -1,6 +1,7 @@
 //! Tests of `amqp_check`: captures and their verdicts, and what is told of the first frame that a
-//! client may not say.
+//! client may not say; and of `amqp_resumed`, from each border of frames on.
 
 mod captures;
 mod findings;
+mod rests;
 mod support;

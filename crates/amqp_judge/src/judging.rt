@@ -2,7 +2,7 @@
 
 ghost use Rattle.std.specs.Prelude.{◌++◌, [], ℕ, List, IfOk, OnOk};
 ghost use Rattle.amqp_check.specs.Verdicts.{IsVerdict};
-ghost use Rattle.amqp_judge.specs.Taken.{HasTaken};
+ghost use Rattle.amqp_judge.specs.Taken.{HasTakenSides};
 
 use crate::client::Client;
 use crate::server::Server;
@@ -22,7 +22,7 @@ pub struct Judging {
 impl Judging {
     /// Nothing was taken.
     pub fn new(alloc: Global) -> Result<Judging, NoMemory>
-        ensures { IfOk result (λ judging. HasTaken [] [] judging) }
+        ensures { IfOk result (λ judging. HasTakenSides [] [] judging) }
     {
         let client = Client::new(alloc)?;
         Ok(Judging {
@@ -33,23 +33,23 @@ impl Judging {
 
     /// Takes further octets of the client. After an error it is not to be used any more.
     pub fn client(&mut self, alloc: Global, piece: &[u8]) -> Result<(), Unjudged>
-        ensures { (client server : List ℕ) → HasTaken client server self.old
-            → OnOk result (HasTaken (client ++ piece.now) server self.new) }
+        ensures { (client server : List ℕ) → HasTakenSides client server self.old
+            → OnOk result (HasTakenSides (client ++ piece.now) server self.new) }
     {
         self.client.take(alloc, piece)
     }
 
     /// Takes further octets of the server. After an error it is not to be used any more.
     pub fn server(&mut self, alloc: Global, piece: &[u8]) -> Result<(), Unjudged>
-        ensures { (client server : List ℕ) → HasTaken client server self.old
-            → OnOk result (HasTaken client (server ++ piece.now) self.new) }
+        ensures { (client server : List ℕ) → HasTakenSides client server self.old
+            → OnOk result (HasTakenSides client (server ++ piece.now) self.new) }
     {
         self.server.take(alloc, piece)
     }
 
     /// The verdict on the octets that were taken, however they were cut: that which `check` has.
     pub fn verdict(&self) -> Verdict
-        ensures { (client server : List ℕ) → HasTaken client server self.now → IsVerdict client server result }
+        ensures { (client server : List ℕ) → HasTakenSides client server self.now → IsVerdict client server result }
     {
         let (client, server) = (self.client.side(), self.server.side());
         match (client.ending(), server.ending(), self.client.illegal()) {

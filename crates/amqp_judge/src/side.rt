@@ -3,7 +3,7 @@
 ghost use Rattle.std.specs.Prelude.{◌≡◌, ◌≢◌, ◌≤◌, ◌<◌, ◌+◌, ◌-◌, ◌^◌, ◌∷◌, ◌++◌, [], ℕ, List, length};
 ghost use Rattle.std.specs.Prelude.{IfOk, OnOk, IfSome, IfNone, Err, ◌⊎◌, drop};
 ghost use Rattle.amqp_frame.specs.declared.frame.Frame.{Frame as AnyFrame};
-ghost use Rattle.amqp_judge.specs.Taken.{IsRead, IsTaken};
+ghost use Rattle.amqp_judge.specs.Taken.{IsReadUpTo, IsTaken, ending_for as ending_of_end};
 
 use amqp_check::{End, Next, read_next};
 use amqp_frame::Frame;
@@ -52,6 +52,17 @@ pub enum Ending {
     Cut,
     /// In what is no frame, whatever follows.
     Bad,
+}
+
+// How the octets end, by what stands where the next frame would begin.
+fn ending_for(end: End) -> Ending
+    ensures { result ≡ ending_of_end end }
+{
+    match end {
+        End::Whole => Ending::Whole,
+        End::Cut(_) => Ending::Cut,
+        End::Bad(_) => Ending::Bad,
+    }
 }
 
 /// One side of a link: where its frames are read, and the octets that are not read yet.
@@ -117,8 +128,8 @@ impl Side {
 
     /// Keeps a further piece. The octets that were read are let go before.
     pub fn push(&mut self, alloc: Global, piece: &[u8]) -> Result<(), Unjudged>
-        ensures read { (octets : List ℕ) (frames : List AnyFrame) → IsRead octets frames self.old
-            → OnOk result (IsRead (octets ++ piece.now) frames self.new) }
+        ensures read { (octets : List ℕ) (frames : List AnyFrame) → IsReadUpTo octets frames self.old
+            → OnOk result (IsReadUpTo (octets ++ piece.now) frames self.new) }
         ensures place { OnOk result (self.new.place ≡ self.old.place) }
         ensures too_long { result ≡ Err Unjudged.TooLong
             → (MOST_UNREAD < length self.old.unread.items - self.old.at + length piece.now)
@@ -136,9 +147,9 @@ impl Side {
     /// Reads the next frame; none, where no whole one stands, which then is how the octets end so far.
     pub fn next(&mut self, alloc: Global) -> Result<Option<Frame>, NoMemory>
         ensures frame { IfOk result (λ next. IfSome next (λ f. (octets : List ℕ) (frames : List AnyFrame)
-            → IsRead octets frames self.old → IsRead octets (frames ++ f ∷ []) self.new)) }
+            → IsReadUpTo octets frames self.old → IsReadUpTo octets (frames ++ f ∷ []) self.new)) }
         ensures end { IfOk result (λ next. IfNone next ((octets : List ℕ) (frames : List AnyFrame)
-            → IsRead octets frames self.old → IsTaken octets frames self.new)) }
+            → IsReadUpTo octets frames self.old → IsTaken octets frames self.new)) }
         ensures further { IfOk result (λ next. IfSome next (λ f. self.old.place < self.new.place)) }
         ensures fewer { IfOk result (λ next. IfSome next (λ f.
             length self.new.unread.items - self.new.at < length self.old.unread.items - self.old.at)) }
@@ -151,11 +162,7 @@ impl Side {
                 Ok(Some(frame))
             }
             Next::End(end) => {
-                self.ending = match end {
-                    End::Whole => Ending::Whole,
-                    End::Cut(_) => Ending::Cut,
-                    End::Bad(_) => Ending::Bad,
-                };
+                self.ending = ending_for(end);
                 Ok(None)
             }
         }

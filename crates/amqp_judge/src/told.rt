@@ -84,11 +84,7 @@ fn finding_shown(alloc: Global, finding: Option<Finding>) -> Result<Option<Strin
 
 // Writes the first frame that the client may not say; or that there is none, where a side ends in what
 // is none.
-fn put_finding(
-    out: &mut String,
-    alloc: Global,
-    finding: Option<Finding>,
-) -> Result<(), NoMemory> {
+fn put_finding(out: &mut String, alloc: Global, finding: Option<Finding>) -> Result<(), NoMemory> {
     let shown = finding_shown(alloc, finding)?;
     let is_empty = out.is_empty();
     begin_line(out)?;
@@ -100,8 +96,8 @@ fn put_finding(
     Ok(())
 }
 
-/// What is to be said of a link: how a side ends, the first frame that the client may not say, and how the server closed
-/// last, where that was with an error. Nothing, where nothing is wrong.
+/// What is to be said of a link: how a side ends, the first frame that the client may not say, and how the server
+/// closed last, where that was with an error. Nothing, where nothing is wrong.
 pub fn told(alloc: Global, judging: Judging) -> Result<String, NoMemory> {
     let verdict = judging.verdict();
     let mut out = String::new(alloc);

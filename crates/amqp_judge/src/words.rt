@@ -26,11 +26,17 @@ docs/SCRIPTS.md says more";
 
 /// The exit statuses of the word.
 const LEGAL: u8 = 0;
+
 const TOO_LONG: u8 = 1;
+
 const USAGE: u8 = 2;
+
 const SOURCE_FAILED: u8 = 3;
+
 const SINK_FAILED: u8 = 4;
+
 const FAILED: u8 = 5;
+
 const NO_MEMORY: u8 = 7;
 
 /// How many octets are read at once.
@@ -72,12 +78,7 @@ fn read_piece<F: Read>(file: &mut F, whose: Whose, block: &mut [u8]) -> Result<u
 }
 
 // Takes a piece of a side.
-fn take(
-    judging: &mut Judging,
-    alloc: Global,
-    whose: Whose,
-    piece: &[u8],
-) -> Result<(), Stop> {
+fn take(judging: &mut Judging, alloc: Global, whose: Whose, piece: &[u8]) -> Result<(), Stop> {
     let taken = match whose {
         Whose::Client => judging.client(alloc, piece),
         Whose::Server => judging.server(alloc, piece),
@@ -172,8 +173,14 @@ fn explain<R: Eprint>(rt: &R, stop: Stop) -> u8 {
     let (line, status) = match stop {
         Stop::Unread(Whose::Client) => ("the file of the client cannot be read", SOURCE_FAILED),
         Stop::Unread(Whose::Server) => ("the file of the server cannot be read", SOURCE_FAILED),
-        Stop::TooLong(Whose::Client) => ("a frame of the client is too long to be judged", TOO_LONG),
-        Stop::TooLong(Whose::Server) => ("a frame of the server is too long to be judged", TOO_LONG),
+        Stop::TooLong(Whose::Client) => (
+            "a frame of the client is too long to be judged",
+            TOO_LONG,
+        ),
+        Stop::TooLong(Whose::Server) => (
+            "a frame of the server is too long to be judged",
+            TOO_LONG,
+        ),
         Stop::NoMemory => ("memory was refused", NO_MEMORY),
     };
     // The status tells it where standard error does not take it.

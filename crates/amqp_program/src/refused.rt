@@ -30,9 +30,9 @@ fn why_part(alloc: Global, part: &[u8], left: u64) -> Result<Option<String>, NoM
         [] => Ok(Some("a part that spells nothing".to_string(alloc)?)),
         [b'z', digits @ ..] => match number(digits, u64::MAX) {
             None => Ok(Some("`z` stands before a number of 64 bits".to_string(alloc)?)),
-            Some(zeros) if zeros > left => Ok(Some(
-                format!(in alloc; "numbers spell more than {ZERO_BYTES} zeros")?,
-            )),
+            Some(zeros) if zeros > left => Ok(Some(format!(in alloc;
+                "numbers spell more than {ZERO_BYTES} zeros"
+            )?)),
             Some(_) => Ok(None),
         },
         digits => why_digits(alloc, digits),
@@ -49,7 +49,11 @@ fn why_data(alloc: Global, text: &[u8], left: u64) -> Result<String, NoMemory> {
         }
         rest = after;
     }
-    Ok("one octet at least is wanted, and no more zeros by number than a capture has".to_string(alloc)?)
+    Ok(
+        "one octet at least is wanted, and no more zeros by number than a capture has".to_string(
+            alloc,
+        )?,
+    )
 }
 
 // Why a line is refused that the limits leave room for.
@@ -70,9 +74,7 @@ fn why_line(alloc: Global, line: &Line, left: u64) -> Result<String, NoMemory> {
     if is_within_limits(line) {
         return why_content(alloc, line.content, left);
     }
-    Ok(format!(in alloc;
-        "a capture has {SCRIPT_LINES} lines and {SCRIPT_BYTES} octets at most"
-    )?)
+    Ok(format!(in alloc; "a capture has {SCRIPT_LINES} lines and {SCRIPT_BYTES} octets at most")?)
 }
 
 /// Why this is the first line of a capture that is refused.

@@ -28,12 +28,6 @@ abbrev pub usage_by : List (ℕ × Usage) → ℕ → Usage
 usage_by [] = λ n. Shut
 usage_by ((n, u) ∷ changes) = with_usage (suc n) u (usage_by changes)
 
--- no octet of a body is missing, and no method is behind which its content may stand
-abbrev pub IsOver : Content → Type 0
-IsOver NoContent = Unit {0}
-IsOver (BodyMissing n missing) = missing ≡ 0
-IsOver (MethodSaid n class) = ⊥
-
 -- the content of a conversation of which this was heard
 abbrev pub HasContent : Heard → Content → Content → Type 0
 HasContent heard.Nothing kept content = Unit {0}
@@ -42,7 +36,7 @@ HasContent (heard.Missing n missing) kept content = content ≡ BodyMissing n mi
 HasContent heard.Frames kept content = content ≡ kept
 
 -- a conversation is as far as what was heard says: where it is over, nothing else counts
-pub record Fits (r : Resumed) (s : Speech) : Type 0 where
+pub record FitsHeard (r : Resumed) (s : Speech) : Type 0 where
   pub stage : s.stage ≡ r.said.stage
   pub content : s.stage ≢ CloseOkSaid → HasContent r.heard r.said.content s.content
   pub usage : s.stage ≢ CloseOkSaid → (n : ℕ) → is_known r n ≡ true → s.usage n ≡ (speech_of r.said).usage n
@@ -52,6 +46,7 @@ pub record Fits (r : Resumed) (s : Speech) : Type 0 where
 pub record HasResumed (frames : List Frame) (r : Resumed) : Type 0 where
   pub nothing : r.heard ≡ heard.Nothing → frames ≡ []
   pub some : r.heard ≢ heard.Nothing → frames ≢ []
-  pub all_fit : r.heard ≢ heard.Nothing → (before : List Frame) (s : Speech) → led_to (before ++ frames) ≡ Some s → Fits r s
+  pub all_fit : r.heard ≢ heard.Nothing → (before : List Frame) (s : Speech) → led_to (before ++ frames) ≡ Some s
+      → FitsHeard r s
   pub each_is_led_to : r.heard ≢ heard.Nothing → (s : Speech) (changes : List (ℕ × Usage)) → s.usage ≡ usage_by changes
-      → Fits r s → (before : List Frame) × (led_to (before ++ frames) ≡ Some s)
+      → FitsHeard r s → (before : List Frame) × (led_to (before ++ frames) ≡ Some s)

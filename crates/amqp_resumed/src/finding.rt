@@ -80,7 +80,7 @@ fn show_heard<W: fmt::Write>(finding: &LateFinding, f: &mut fmt::Formatter<W>) -
         Heard::Missing(channel, missing) => {
             write!(
                 f,
-                "of the body on channel {channel} {missing} octets are missing\nthey come next, in frames that are not empty"
+                "of the body on channel {channel} {missing} octets are missing\nthey come next, in no empty frame"
             )
         }
         Heard::Frames => {

@@ -36,7 +36,10 @@ fn say_own(said: &mut Speech, frame: Frame) {
 pub fn lead(alloc: Global, said: &mut Speech, frame: &Frame) {
     match frame {
         Frame::ProtocolHeader(_) | Frame::Method(0, Method::StartOk(..)) => {}
-        Frame::Method(0, Method::SecureOk(_) | Method::TuneOk(..)) => say_own(said, start_ok(alloc)),
+        Frame::Method(0, Method::SecureOk(_) | Method::TuneOk(..)) => say_own(
+            said,
+            start_ok(alloc),
+        ),
         Frame::Method(0, Method::Open(_)) => {
             say_own(said, start_ok(alloc));
             say_own(said, Frame::Method(0, Method::TuneOk(0, 0, 0)));
@@ -81,9 +84,8 @@ pub fn channel_used(frame: &Frame) -> Option<ChannelId> {
             | Method::ChannelClose(..)
             | Method::ChannelCloseOk,
         ) => Some(*channel),
-        Frame::Raw(channel, RawKind::RawMethod, payload) if is_passed_through(payload.as_bytes()) => {
-            Some(*channel)
-        }
+        Frame::Raw(channel, RawKind::RawMethod, payload) if is_passed_through(payload.as_bytes()) =>
+            { Some(*channel) }
         _ => None,
     }
 }

@@ -79,10 +79,12 @@ fn explained(
             Some(line) => Said::Line(line),
             None => Said::Nothing,
         }),
-        Some(Asked::Check) if matches!(status, CLOSED | FAILED | REFUSED) => Ok(match explain(alloc, text)? {
-            Some(lines) => Said::Capture(lines),
-            None => Said::Nothing,
-        }),
+        Some(Asked::Check) if matches!(status, CLOSED | FAILED | REFUSED) => Ok(
+            match explain(alloc, text)? {
+                Some(lines) => Said::Capture(lines),
+                None => Said::Nothing,
+            },
+        ),
         _ => Ok(Said::Nothing),
     }
 }
