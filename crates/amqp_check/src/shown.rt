@@ -99,7 +99,7 @@ pub fn usage_name(usage: Usage) -> &'static str {
 /// Writes what was said of the content that may go on.
 pub fn show_content<W: fmt::Write>(content: Content, f: &mut fmt::Formatter<W>) -> fmt::Result {
     match content {
-        Content::NoContent => Ok(()),
+        Content::NoContent | Content::BodyMissing(_, 0) => Ok(()),
         Content::MethodSaid(channel, class) => {
             write!(f, "; a method of class {class} on channel {channel}")
         }

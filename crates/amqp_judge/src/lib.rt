@@ -17,4 +17,4 @@ pub use judging::Judging;
 pub use server::Server;
 pub use side::{Ending, MOST_UNREAD, Side, Unjudged};
 pub use told::{told, verdict_line};
-pub use words::{HELP_TEXT, run};
+pub use words::{HELP_TEXT, asked, run};

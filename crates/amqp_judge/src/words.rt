@@ -188,10 +188,32 @@ fn explain<R: Eprint>(rt: &R, stop: Stop) -> u8 {
     status
 }
 
+/// The words behind `judge`, where that is the first.
+pub fn asked(words: &[Text]) -> Option<&[Text]> {
+    match words {
+        [first, rest @ ..] if first.as_str() == "judge" => Some(rest),
+        _ => None,
+    }
+}
+
+// Whether help is asked for.
+fn wants_help(word: &Text) -> bool {
+    word.as_str() == "--help" || word.as_str() == "-h"
+}
+
+// Prints the help, and gives the status.
+fn help<R: Print>(rt: &R) -> u8 {
+    match rt.println(HELP_TEXT) {
+        Ok(()) => LEGAL,
+        Err(_) => SINK_FAILED,
+    }
+}
+
 /// Judges the files that two words name, prints the verdict, and says on standard error what is wrong. Gives the exit
 /// status.
 pub fn run<R: Files + Print + Eprint>(rt: &R, alloc: Global, words: &[Text]) -> u8 {
     match words {
+        [word] if wants_help(word) => help(rt),
         [client, server] => match judged(rt, alloc, client.as_str(), server.as_str()) {
             Ok((verdict, said)) => print(rt, alloc, verdict, &said),
             Err(stop) => explain(rt, stop),

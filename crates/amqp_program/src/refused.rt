@@ -25,35 +25,41 @@ fn why_digits(alloc: Global, part: &[u8]) -> Result<Option<String>, NoMemory> {
 }
 
 // Why a part of what octets are spelled by is none.
-fn why_part(alloc: Global, part: &[u8], left: u64) -> Result<Option<String>, NoMemory> {
+fn why_part(alloc: Global, part: &[u8]) -> Result<Option<String>, NoMemory> {
     match part {
         [] => Ok(Some("a part that spells nothing".to_string(alloc)?)),
         [b'z', digits @ ..] => match number(digits, u64::MAX) {
             None => Ok(Some("`z` stands before a number of 64 bits".to_string(alloc)?)),
-            Some(zeros) if zeros > left => Ok(Some(format!(in alloc;
-                "numbers spell more than {ZERO_BYTES} zeros"
-            )?)),
             Some(_) => Ok(None),
         },
         digits => why_digits(alloc, digits),
     }
 }
 
+// How many zeros a part spells by a number.
+fn zeros_in(part: &[u8]) -> u64 {
+    match part {
+        [b'z', digits @ ..] => number(digits, u64::MAX).unwrap_or(0),
+        _ => 0,
+    }
+}
+
 // Why no octets are spelled.
 fn why_data(alloc: Global, text: &[u8], left: u64) -> Result<String, NoMemory> {
     let mut rest = if is(text, b"-") { None } else { Some(text) };
+    let mut zeros: u64 = 0;
     'parts: while let Some(more) = rest {
         let (part, after) = cut(more, b'+');
-        if let Some(why) = why_part(alloc, part, left)? {
+        if let Some(why) = why_part(alloc, part)? {
             return Ok(why);
         }
+        zeros = zeros.saturating_add(zeros_in(part));
         rest = after;
     }
-    Ok(
-        "one octet at least is wanted, and no more zeros by number than a capture has".to_string(
-            alloc,
-        )?,
-    )
+    if zeros > left {
+        return Ok(format!(in alloc; "numbers spell more than {ZERO_BYTES} zeros")?);
+    }
+    Ok("one octet at least is wanted".to_string(alloc)?)
 }
 
 // Why a line is refused that the limits leave room for.
