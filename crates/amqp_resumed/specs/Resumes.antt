@@ -31,7 +31,7 @@ usage_by ((n, u) ∷ changes) = with_usage (suc n) u (usage_by changes)
 -- the content of a conversation of which this was heard
 abbrev pub HasContent : Heard → Content → Content → Type 0
 HasContent heard.Nothing kept content = Unit {0}
-HasContent (heard.Body n octets) kept content = (missing : ℕ) × (content ≡ BodyMissing n missing)
+HasContent (heard.Body n) kept content = (missing : ℕ) × (content ≡ BodyMissing n missing)
 HasContent (heard.Missing n missing) kept content = content ≡ BodyMissing n missing
 HasContent heard.Frames kept content = content ≡ kept
 

@@ -71,7 +71,7 @@ fn show_usage<W: fmt::Write>(finding: &LateFinding, f: &mut fmt::Formatter<W>) -
 fn show_heard<W: fmt::Write>(finding: &LateFinding, f: &mut fmt::Formatter<W>) -> fmt::Result {
     match finding.heard.heard() {
         Heard::Nothing => f.write_str("nothing\nany frame comes next that a client may say"),
-        Heard::Body(channel, _) => {
+        Heard::Body(channel) => {
             write!(
                 f,
                 "frames of a body on channel {channel}\na further one comes next, not empty, or what may follow a body"

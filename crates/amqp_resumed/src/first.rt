@@ -112,8 +112,7 @@ pub fn content_begun(frame: &Frame) -> Option<(ChannelId, Heard)> {
             Some((*channel, Heard::Missing(*channel, missing)))
         }
         Frame::Raw(channel, RawKind::Body, payload) if !payload.is_empty() => {
-            let octets = payload.len() as u64;
-            Some((*channel, Heard::Body(*channel, octets)))
+            Some((*channel, Heard::Body(*channel)))
         }
         _ => None,
     }

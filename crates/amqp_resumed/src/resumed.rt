@@ -16,8 +16,8 @@ const CHANNELS: usize = 65_536;
 pub enum Heard {
     /// No frame.
     Nothing,
-    /// Frames of the body on a channel alone, of so many octets; how many are missing is not known.
-    Body(ChannelId, u64),
+    /// Frames of the body on a channel alone; how many octets are missing is not known.
+    Body(ChannelId),
     /// The content header on a channel, and frames of its body, of which so many octets are missing.
     Missing(ChannelId, u64),
     /// Enough to tell which content may go on.
@@ -97,7 +97,7 @@ impl Resumed {
     {
         match self.heard {
             Heard::Nothing => self.begin(frame),
-            Heard::Body(channel, octets) => self.go_on_in_body(channel, octets, frame),
+            Heard::Body(channel) => self.go_on_in_body(channel, frame),
             Heard::Missing(channel, missing) => self.go_on_to(channel, missing, frame),
             Heard::Frames => self.say_known(frame),
         }
@@ -135,20 +135,9 @@ impl Resumed {
     }
 
     // A frame behind frames of a body alone: one more of them, or what is said behind the last.
-    fn go_on_in_body(&mut self, channel: ChannelId, octets: u64, frame: &Frame) -> bool {
+    fn go_on_in_body(&mut self, channel: ChannelId, frame: &Frame) -> bool {
         match frame {
-            Frame::Raw(other, RawKind::Body, payload) => {
-                if *other != channel || payload.is_empty() {
-                    return false;
-                }
-                match octets.checked_add(payload.len() as u64) {
-                    Some(sum) => {
-                        self.heard = Heard::Body(channel, sum);
-                        true
-                    }
-                    None => false,
-                }
-            }
+            Frame::Raw(other, RawKind::Body, payload) => *other == channel && !payload.is_empty(),
             _ => self.leave(frame),
         }
     }
