@@ -33,22 +33,57 @@ impl Closing {
     }
 }
 
-/// The close that a frame is, of this number and at this place. It takes the frame.
-pub fn closing_in(frame: Frame, number: u64, place: u64) -> Option<Closing> {
-    match frame {
-        Frame::Method(
-            channel,
-            Method::Close(code, text, class, method)
-            | Method::ChannelClose(code, text, class, method),
-        ) => Some(Closing {
-            number,
-            place,
-            channel,
+/// Why something was closed: a code, a text, and the class and the method that it is about.
+#[derive(Drop)]
+struct Reasons {
+    code: u16,
+    text: ShortString,
+    class: u16,
+    method: u16,
+}
+
+// What a method says of a close. It takes the method.
+fn reasons_in(method: Method) -> Option<Reasons> {
+    match method {
+        Method::Close(code, text, class, method) => Some(Reasons {
             code,
             text,
             class,
             method,
         }),
+        Method::ChannelClose(code, text, class, method) => Some(Reasons {
+            code,
+            text,
+            class,
+            method,
+        }),
+        other => {
+            drop(other);
+            None
+        }
+    }
+}
+
+/// The close that a frame is, of this number and at this place. It takes the frame.
+pub fn closing_in(frame: Frame, number: u64, place: u64) -> Option<Closing> {
+    match frame {
+        Frame::Method(channel, method) => {
+            let Reasons {
+                code,
+                text,
+                class,
+                method,
+            } = reasons_in(method)?;
+            Some(Closing {
+                number,
+                place,
+                channel,
+                code,
+                text,
+                class,
+                method,
+            })
+        }
         other => {
             drop(other);
             None

@@ -1,8 +1,7 @@
 //! Tests of `amqp_check`: captures and their verdicts, and what is told of the first frame that a
-//! client may not say; of `amqp_judge`, in pieces; and of `amqp_resumed`, from each border of frames on.
+//! client may not say; and of `amqp_judge`, where both sides come in pieces.
 
 mod captures;
 mod findings;
 mod judged;
-mod rests;
 mod support;

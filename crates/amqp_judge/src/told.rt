@@ -83,15 +83,22 @@ fn finding_shown(alloc: Global, finding: Option<Finding>) -> Result<Option<Strin
 }
 
 // Writes the first frame that the client may not say; or that there is none, where a side ends in what
-// is none.
-fn put_finding(out: &mut String, alloc: Global, finding: Option<Finding>) -> Result<(), NoMemory> {
-    let shown = finding_shown(alloc, finding)?;
-    let is_empty = out.is_empty();
-    begin_line(out)?;
-    match shown {
-        Some(text) => out.push_str(&text)?,
-        None if is_empty => {}
-        None => out.push_str("the client's whole frames are a legal conversation")?,
+// is none and the client's has frames.
+fn put_finding(
+    out: &mut String,
+    alloc: Global,
+    finding: Option<Finding>,
+    has_frames: bool,
+) -> Result<(), NoMemory> {
+    match finding_shown(alloc, finding)? {
+        Some(text) => {
+            begin_line(out)?;
+            out.push_str(&text)?;
+        }
+        None if has_frames && !out.is_empty() => {
+            out.push_str("\nthe client's whole frames are a legal conversation")?;
+        }
+        None => {}
     }
     Ok(())
 }
@@ -106,9 +113,10 @@ pub fn told(alloc: Global, judging: Judging) -> Result<String, NoMemory> {
         Ok(()) => put_close(&mut closed, &judging),
         Err(refused) => Err(refused),
     };
+    let has_frames = judging.client_side().frames() > 0;
     let finding = judging.into_finding();
     match put {
-        Ok(()) => put_finding(&mut out, alloc, finding)?,
+        Ok(()) => put_finding(&mut out, alloc, finding, has_frames)?,
         Err(refused) => {
             drop(finding);
             return Err(refused);

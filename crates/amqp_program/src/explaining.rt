@@ -4,7 +4,6 @@
 use crate::captured::{Capture, Captured, Side, line_of_octet, read_capture};
 use crate::refused::why_refused;
 use amqp_check::{Broken, Verdict, check, first_illegal, last_close, other_protocol};
-use amqp_resumed::first_wrong;
 use amqp_types::NoMemory;
 use std::alloc::Global;
 
@@ -62,21 +61,6 @@ fn put_protocol(out: &mut String, place: u64, octets: &[u8]) -> Result<(), NoMem
     }
 }
 
-// Writes the first frame by which what the client said is the rest of no legal conversation; or that it is one.
-fn put_late(out: &mut String, alloc: Global, text: &[u8], client: &[u8]) -> Result<(), NoMemory> {
-    out.push_str("\nif the capture began in mid-stream, ")?;
-    let Some(finding) = first_wrong(alloc, client)? else {
-        return Ok(out.push_str("the client's whole frames are the rest of a legal conversation")?);
-    };
-    let place = finding.place;
-    let shown = format!(in alloc; "{finding}");
-    drop(finding);
-    out.push_str("this is wrong:\n")?;
-    put_line(out, alloc, Side::Client, place, text)?;
-    out.push_str(&shown?)?;
-    Ok(())
-}
-
 // Writes the first frame of the client that it may not say, and whether there is one.
 fn put_illegal(
     out: &mut String,
@@ -93,10 +77,15 @@ fn put_illegal(
     put_line(out, alloc, Side::Client, place, text)?;
     out.push_str(&shown?)?;
     put_protocol(out, place, client)?;
-    if place == 0 && !client.starts_with(b"AMQP") {
-        put_late(out, alloc, text, client)?;
-    }
     Ok(true)
+}
+
+// Whether the client's side has a whole frame, where the verdict is that a side ends in what is none.
+fn has_frames(verdict: Verdict, client: &[u8]) -> bool {
+    match verdict {
+        Verdict::BadClient(place) | Verdict::CutClient(place) => place != 0,
+        _ => !client.is_empty(),
+    }
 }
 
 // Writes what the client's whole frames are, where a side ends in what is none.
@@ -128,7 +117,9 @@ fn explain_verdict(
         Verdict::BadServer(at) => explain_broken(alloc, text, Side::Server, server, at, false)?,
         Verdict::CutServer(at) => explain_broken(alloc, text, Side::Server, server, at, true)?,
     };
-    put_rest(&mut out, alloc, text, client)?;
+    if has_frames(verdict, client) {
+        put_rest(&mut out, alloc, text, client)?;
+    }
     Ok(out)
 }
 

@@ -1,27 +1,44 @@
--- What was heard of a client whose beginning was not heard, as the code keeps it: of which conversations these frames
--- may be the rest.
-use Rattle.std.specs.Prelude.{◌≡◌, ◌≢◌, ℕ, suc, Bool, true, ◌||◌, List, [], ◌∷◌, ◌++◌, length, Option, Some, None, slice_index_or}
-use Rattle.std.specs.Prelude.{if◌then◌else◌, false}
+-- What was heard of a client whose beginning was not heard, and of which conversations it may be the rest.
+use Rattle.std.specs.Prelude.{◌≡◌, ◌≢◌, ℕ, zero, suc, ◌-◌, ◌==◌, ◌&&◌, ◌||◌, not, nat_le, Bool, true, false, if◌then◌else◌}
+use Rattle.std.specs.Prelude.{List, [], ◌∷◌, ◌++◌, length, Option, Some, None, slice_index_or}
 use Rattle.amqp_frame.specs.declared.frame.Frame.{Frame}
-use Rattle.amqp_legal.specs.Decider.{Speech, greeted, say_all, is_amqp_header, with_usage}
+use Rattle.amqp_frame.specs.declared.frame.Frame.TheVariants.{Method, Raw}
+use Rattle.amqp_frame.specs.declared.frame.RawKind.TheVariants.{RawMethod, Header, Body}
+use Rattle.amqp_frame.specs.declared.method.Method.TheVariants.{CloseOk, ChannelOpen, ChannelFlow, ChannelFlowOk}
+use Rattle.amqp_frame.specs.declared.method.Method.TheVariants.{ChannelClose, ChannelCloseOk}
+use Rattle.amqp_legal.specs.Decider.{Speech, greeted, say, say_all, is_amqp_header, is_passed_through, with_usage}
 use Rattle.amqp_legal.specs.Speeches.{speech_of}
+use Rattle.amqp_legal.specs.declared.progress.Stage.{Stage}
 use Rattle.amqp_legal.specs.declared.progress.Stage.TheVariants.{OpenSaid, CloseOkSaid}
 use Rattle.amqp_legal.specs.declared.progress.Content.{Content}
 use Rattle.amqp_legal.specs.declared.progress.Content.TheVariants.{NoContent, MethodSaid, BodyMissing}
 use Rattle.amqp_legal.specs.declared.progress.Usage.{Usage}
 use Rattle.amqp_legal.specs.declared.progress.Usage.TheVariants.{Shut, InUse}
+use Rattle.amqp_resumed.specs.Rests.{IsLegalRest}
 use Rattle.amqp_resumed.specs.declared.resumed.Heard.{Heard}
 use Rattle.amqp_resumed.specs.declared.resumed.Heard.TheVariants as heard
 use Rattle.amqp_resumed.specs.declared.resumed.Resumed.{Resumed}
+
+-- ---- which conversations what was heard may be the rest of
+
+-- what was heard, a conversation that it may be the rest of, and the channels whose usage it tells
+pub record Late : Type 0 where
+  pub heard : Heard
+  pub said : Speech
+  pub known : ℕ → Bool
+
+-- the same, as the code keeps it
+abbrev pub late_of : Resumed → Late
+late_of r = record {
+  heard = r.heard;
+  said = speech_of r.said;
+  known = λ n. r.is_whole || slice_index_or r.known.items n false;
+}
 
 -- how far frames lead that are said one after another from the protocol header on, where each might be said
 abbrev pub led_to : List Frame → Option Speech
 led_to [] = None
 led_to (f ∷ frames) = if is_amqp_header f then say_all (Some greeted) frames else None
-
--- whether the usage of a channel is known
-abbrev pub is_known : Resumed → ℕ → Bool
-is_known r n = r.is_whole || slice_index_or r.known.items n false
 
 -- the usage of channels in which finitely many changed, none of them channel 0
 abbrev pub usage_by : List (ℕ × Usage) → ℕ → Usage
@@ -35,18 +52,47 @@ HasContent (heard.Body n) kept content = (missing : ℕ) × (content ≡ BodyMis
 HasContent (heard.Missing n missing) kept content = content ≡ BodyMissing n missing
 HasContent heard.Frames kept content = content ≡ kept
 
--- a conversation is as far as what was heard says: where it is over, nothing else counts
-pub record FitsHeard (r : Resumed) (s : Speech) : Type 0 where
-  pub stage : s.stage ≡ r.said.stage
-  pub content : s.stage ≢ CloseOkSaid → HasContent r.heard r.said.content s.content
-  pub usage : s.stage ≢ CloseOkSaid → (n : ℕ) → is_known r n ≡ true → s.usage n ≡ (speech_of r.said).usage n
+-- a conversation that goes on is as far as what was heard says
+pub record FitsHeard (l : Late) (s : Speech) : Type 0 where
+  pub stage : s.stage ≡ l.said.stage
+  pub content : s.stage ≢ CloseOkSaid → HasContent l.heard l.said.content s.content
+  pub usage : s.stage ≢ CloseOkSaid → (n : ℕ) → l.known n ≡ true → s.usage n ≡ l.said.usage n
 
--- these frames were heard: whatever was said before, the conversation is one that fits; and each that fits, in which
--- finitely many channels are not shut, is led to by them behind some others
-pub record HasResumed (frames : List Frame) (r : Resumed) : Type 0 where
-  pub nothing : r.heard ≡ heard.Nothing → frames ≡ []
-  pub some : r.heard ≢ heard.Nothing → frames ≢ []
-  pub all_fit : r.heard ≢ heard.Nothing → (before : List Frame) (s : Speech) → led_to (before ++ frames) ≡ Some s
-      → FitsHeard r s
-  pub each_is_led_to : r.heard ≢ heard.Nothing → (s : Speech) (changes : List (ℕ × Usage)) → s.usage ≡ usage_by changes
-      → FitsHeard r s → (before : List Frame) × (led_to (before ++ frames) ≡ Some s)
+-- behind some frames these lead there
+abbrev pub IsLedTo : List Frame → Speech → Type 0
+IsLedTo frames s = (before : List Frame) × (led_to (before ++ frames) ≡ Some s)
+
+-- these frames were heard. Whatever was said before, the conversation fits; and each that fits and goes on, and in
+-- which finitely many channels changed, is led to by them behind some others
+pub record HasHeardRest (frames : List Frame) (l : Late) : Type 0 where
+  pub rest : IsLegalRest frames
+  pub all_fit : (before : List Frame) (s : Speech) → led_to (before ++ frames) ≡ Some s → FitsHeard l s
+  pub each_is_led_to : (s : Speech) (changes : List (ℕ × Usage)) → s.usage ≡ usage_by changes → s.stage ≢ CloseOkSaid
+      → FitsHeard l s → IsLedTo frames s
+
+-- no frame was heard, and nothing is known; or these were
+abbrev pub HasResumedAt : List Frame → Heard → Late → Type 0
+HasResumedAt frames heard.Nothing l = (frames ≡ []) × (l.said ≡ greeted) × (l.known ≡ λ n. false)
+HasResumedAt frames _ l = (frames ≢ []) × HasHeardRest frames l
+
+-- these frames were heard since some border
+abbrev pub HasResumed : List Frame → Resumed → Type 0
+HasResumed frames r = HasResumedAt frames r.heard (late_of r)
+
+-- ---- what may be said next, as the code decides it
+
+-- the channel on which a frame is a method that may be said there, by some usage of the channel
+abbrev pub channel_used : Frame → Option ℕ
+channel_used (Method (suc n) ChannelOpen) = Some (suc n)
+channel_used (Method (suc n) (ChannelFlow active)) = Some (suc n)
+channel_used (Method (suc n) (ChannelFlowOk active)) = Some (suc n)
+channel_used (Method (suc n) (ChannelClose code text class method)) = Some (suc n)
+channel_used (Method (suc n) ChannelCloseOk) = Some (suc n)
+channel_used (Raw (suc n) RawMethod method) = if is_passed_through method then Some (suc n) else None
+channel_used _ = None
+
+-- a method may be said now, by some usage of its channel
+abbrev pub may_say_method : Stage → Content → Bool
+may_say_method OpenSaid (BodyMissing n (suc missing)) = false
+may_say_method OpenSaid content = true
+may_say_method stage content = false

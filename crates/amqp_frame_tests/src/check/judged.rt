@@ -60,8 +60,7 @@ the client's whole frames are a legal conversation",
         said: "client byte 0: no frame stands here
 octets: 16 03 01 00
 at byte 0 stands 16, and a frame begins with 01, 02, 03, 08, or with AMQP
-this looks like TLS
-the client's whole frames are a legal conversation",
+this looks like TLS",
     },
     Row {
         client: &[HEADER, START_OK, TUNE_OK, OPEN, METHOD_1],

@@ -172,15 +172,13 @@ const EXPLAINED: [(&str, &str); 6] = [
         "server 0100000000000400\nserver 0a0033cf\n",
         "line 1, server byte 0: no frame stands here\n\
          octets: 01 00 00 00 00 00 04 00 0a 00 33 cf\n\
-         at byte 11 stands cf, and the frame ends there, with ce\n\
-         the client's whole frames are a legal conversation",
+         at byte 11 stands cf, and the frame ends there, with ce",
     ),
     (
         "server 08000100000000ce\n",
         "line 1, server byte 0: no frame stands here\n\
          octets: 08 00 01 00 00 00 00 ce\n\
-         a heartbeat stands on channel 0, and not on 1\n\
-         the client's whole frames are a legal conversation",
+         a heartbeat stands on channel 0, and not on 1",
     ),
     (
         "client 414d515000000901010000000001330a\n",
