@@ -203,3 +203,51 @@ block-on (f.Raw (suc k) raw.RawMethod method) n s h = by (is_passed_through meth
       subst (λ (j : ℕ). say_block g s ≡ option_map (used_as j next s) (usage_after g (s.usage j))) same
       (if-true (is_passed_through method) (say_use (s.usage (suc k)) next s) None is ∙ use-by (suc k) next (s.usage (suc k)) s refl ∙ same-use (suc k) next s true method (s.usage (suc k)))
   by false is = absurd (let none : channel_used g ≡ None = if-false (is_passed_through method) (Some (suc k)) None is in cc)
+
+none-on-0 : (method : _) (n : ℕ) → channel_used (f.Method 0 method) ≡ Some n → ⊥
+none-on-0 _ n h = cc
+
+content-on : (c : Content) (st : Stage) (g : Frame) (n : ℕ) (s : Speech) → channel_used g ≡ Some n
+    → in_content c g s ≡ (if may_say_method OpenSaid c then say_block g s else None)
+content-on NoContent st g n s h = refl
+content-on (MethodSaid k class) st (f.Raw j raw.Header head) n s h = absurd (header j h) where
+  header : (j : ℕ) → channel_used (f.Raw j raw.Header head) ≡ Some n → ⊥
+  header zero k = cc
+  header (suc i) k = cc
+content-on (MethodSaid k class) st (f.Raw j raw.RawMethod method) n s h = refl
+content-on (MethodSaid k class) st (f.Raw j raw.Body body) n s h = refl
+content-on (MethodSaid k class) st f.Heartbeat n s h = refl
+content-on (MethodSaid k class) st (f.ProtocolHeader w) n s h = refl
+content-on (MethodSaid k class) st (f.Method j method) n s h = refl
+content-on (BodyMissing k zero) st g n s h = refl
+content-on (BodyMissing k (suc missing)) st (f.Raw j raw.Body body) n s h = absurd (inside j h) where
+  inside : (j : ℕ) → channel_used (f.Raw j raw.Body body) ≡ Some n → ⊥
+  inside zero k = cc
+  inside (suc i) k = cc
+content-on (BodyMissing k (suc missing)) st _ n s h = refl
+
+stage-on : (st : Stage) (g : Frame) (n : ℕ) (s : Speech) → channel_used g ≡ Some n
+    → in_stage st g s ≡ (if may_say_method st s.content then say_block g s else None)
+stage-on HeaderSaid (f.Method zero method) n s h = absurd (none-on-0 method n h)
+stage-on HeaderSaid (f.Method (suc k) method) n s h = refl
+stage-on HeaderSaid _ n s h = refl
+stage-on StartOkSaid (f.Method zero method) n s h = absurd (none-on-0 method n h)
+stage-on StartOkSaid (f.Method (suc k) method) n s h = refl
+stage-on StartOkSaid _ n s h = refl
+stage-on TuneOkSaid (f.Method zero method) n s h = absurd (none-on-0 method n h)
+stage-on TuneOkSaid (f.Method (suc k) method) n s h = refl
+stage-on TuneOkSaid _ n s h = refl
+stage-on OpenSaid (f.Method zero method) n s h = absurd (none-on-0 method n h)
+stage-on OpenSaid (f.Method (suc k) method) n s h = content-on s.content OpenSaid (f.Method (suc k) method) n s h
+stage-on OpenSaid g n s h = content-on s.content OpenSaid g n s h
+stage-on CloseSaid (f.Method zero method) n s h = absurd (none-on-0 method n h)
+stage-on CloseSaid (f.Method (suc k) method) n s h = refl
+stage-on CloseSaid _ n s h = refl
+stage-on CloseOkSaid g n s h = refl
+
+-- a method on a channel may be said where methods may, and by the channel's usage
+pub method-said : (g : Frame) (n : ℕ) (s : Speech) → channel_used g ≡ Some n
+    → say g s ≡ (if may_say_method s.stage s.content then option_map (used_as n (content_after g) s) (usage_after g (s.usage n)) else None)
+method-said g n s h =
+    stage-on s.stage g n s h
+    ∙ ap (λ (o : Option Speech). if may_say_method s.stage s.content then o else None) (block-on g n s h)
