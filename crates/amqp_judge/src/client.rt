@@ -1,6 +1,8 @@
 //! The client's side, whose frames are heard.
 
-ghost use Rattle.std.specs.Prelude.{◌≤◌, ◌++◌, [], ℕ, List, OnOk, IfOk};
+ghost use Rattle.std.specs.Prelude.{◌≡◌, ◌≢◌, ◌≤◌, ◌<◌, ◌+◌, ◌++◌, ◌∷◌, [], ℕ, List, OnOk, IfOk};
+ghost use Rattle.amqp_frame.specs.declared.frame.Frame.{Frame as AnyFrame};
+ghost use Rattle.amqp_check.specs.Hearing.{HasHeard};
 ghost use Rattle.amqp_judge.specs.Taken.{HasHeardClient};
 
 use crate::side::{Ending, Side, Unjudged};
@@ -61,9 +63,18 @@ impl Client {
         ensures { (octets : List ℕ) → HasHeardClient octets self.old
             → OnOk result (HasHeardClient (octets ++ piece.now) self.new) }
     {
-        if self.side.ending() == Ending::Bad {
-            return Ok(());
+        match self.side.ending() {
+            Ending::Bad => Ok(()),
+            Ending::Whole | Ending::Cut => self.read(alloc, piece),
         }
+    }
+
+    // Reads on, with a further piece.
+    fn read(&mut self, alloc: Global, piece: &[u8]) -> Result<(), Unjudged>
+        requires { self.old.side.ending ≢ Ending.Bad }
+        ensures { (octets : List ℕ) → HasHeardClient octets self.old
+            → OnOk result (HasHeardClient (octets ++ piece.now) self.new) }
+    {
         self.side.push(alloc, piece)?;
         'frames: loop {
             let place = self.side.place();
@@ -78,6 +89,8 @@ impl Client {
     fn hear(&mut self, frame: Frame, place: u64)
         requires { self.old.judge.frames < self.old.side.place }
         ensures side { self.new.side ≡ self.old.side }
+        ensures heard { (frames : List AnyFrame) → HasHeard frames self.old.judge
+            → HasHeard (frames ++ frame ∷ []) self.new.judge }
     {
         let was_legal = self.judge.illegal.is_none();
         self.judge.hear(&frame);

@@ -1,6 +1,6 @@
 //! The server's side, whose frames are counted.
 
-ghost use Rattle.std.specs.Prelude.{◌≡◌, ◌≤◌, ◌++◌, [], ℕ, List, OnOk};
+ghost use Rattle.std.specs.Prelude.{◌≡◌, ◌≢◌, ◌≤◌, ◌<◌, ◌+◌, ◌++◌, [], ℕ, List, OnOk};
 ghost use Rattle.amqp_judge.specs.Taken.{HasCountedServer};
 
 use crate::side::{Ending, Side, Unjudged};
@@ -54,9 +54,18 @@ impl Server {
         ensures { (octets : List ℕ) → HasCountedServer octets self.old
             → OnOk result (HasCountedServer (octets ++ piece.now) self.new) }
     {
-        if self.side.ending() == Ending::Bad {
-            return Ok(());
+        match self.side.ending() {
+            Ending::Bad => Ok(()),
+            Ending::Whole | Ending::Cut => self.read(alloc, piece),
         }
+    }
+
+    // Reads on, with a further piece.
+    fn read(&mut self, alloc: Global, piece: &[u8]) -> Result<(), Unjudged>
+        requires { self.old.side.ending ≢ Ending.Bad }
+        ensures { (octets : List ℕ) → HasCountedServer octets self.old
+            → OnOk result (HasCountedServer (octets ++ piece.now) self.new) }
+    {
         self.side.push(alloc, piece)?;
         'frames: loop {
             let place = self.side.place();
