@@ -28,10 +28,10 @@ here octets frames side r is found = ap (λ (xs : List ℕ). front xs no_limit) 
 
 -- ---- a piece more
 
-pub read-more : (octets piece : List ℕ) (frames : List Frame) (old new : Side) → old.at ≤ length old.unread.items
+pub read_more : (octets piece : List ℕ) (frames : List Frame) (old new : Side) → old.at ≤ length old.unread.items
     → new.place ≡ old.place → new.at ≡ 0 → new.unread.items ≡ drop old.at old.unread.items ++ piece → IsReadUpTo octets frames old
     → IsReadUpTo (octets ++ piece) frames new
-read-more octets piece frames old new within place at unread is =
+read_more octets piece frames old new within place at unread is =
     let inside : old.place ≤ length octets = omega (arith, is.count) in
     let kept : drop old.place (octets ++ piece) ≡ new.unread.items =
     drop-append-le old.place octets piece inside ∙ ap (λ (xs : List ℕ). xs ++ piece) is.rest ∙ sym unread in
@@ -68,9 +68,9 @@ broken-more octets piece frames place is = (
       )) is.1,
 )
 
-pub taken-more : (octets piece : List ℕ) (frames : List Frame) (side : Side) → side.ending ≡ Bad → IsTaken octets frames side
+pub taken_more : (octets piece : List ℕ) (frames : List Frame) (side : Side) → side.ending ≡ Bad → IsTaken octets frames side
     → IsTaken (octets ++ piece) frames side
-taken-more octets piece frames side bad is = record {
+taken_more octets piece frames side bad is = record {
   sequence = subst (λ (e : Ending). IsSequence (octets ++ piece) no_limit frames side.place (sequence_end e)) (sym bad)
       (broken-more octets piece frames side.place (subst (λ (e : Ending). IsSequence octets no_limit frames side.place (sequence_end e)) bad is.sequence));
   kept = λ other. absurd (other bad);
@@ -78,10 +78,10 @@ taken-more octets piece frames side bad is = record {
 
 -- ---- a frame more
 
-pub read-frame : (octets : List ℕ) (frames : List Frame) (f : Frame) (n : ℕ) (old new : Side) → new.unread ≡ old.unread → new.at ≡ old.at + n → new.place ≡ old.place + n
+pub read_frame : (octets : List ℕ) (frames : List Frame) (f : Frame) (n : ℕ) (old new : Side) → new.unread ≡ old.unread → new.at ≡ old.at + n → new.place ≡ old.place + n
     → old.at + n ≤ length old.unread.items → front_at old.unread.items no_limit old.at ≡ AFrame f n → IsReadUpTo octets frames old
     → IsReadUpTo octets (frames ++ f ∷ []) new
-read-frame octets frames f n old new same at place within found is =
+read_frame octets frames f n old new same at place within found is =
     let items : new.unread.items ≡ old.unread.items = ap (λ v. v.items) same in
     record {
       stand = subst (λ (p : ℕ). Stand octets no_limit 0 (frames ++ f ∷ []) p) (sym place)
@@ -102,9 +102,9 @@ ends-there octets frames old (at.Cut p) within ends is =
 ends-there octets frames old (at.Bad p) within ends is =
     subst IsNoFrame (sym (ap (λ (xs : List ℕ). front xs no_limit) is.rest)) ends.1
 
-pub read-end : (octets : List ℕ) (frames : List Frame) (old new : Side) (end : End) → new ≡ record old { ending = ending_for end }
+pub read_end : (octets : List ℕ) (frames : List Frame) (old new : Side) (end : End) → new ≡ record old { ending = ending_for end }
     → old.at ≤ length old.unread.items → EndsHere old.unread.items old.at end → IsReadUpTo octets frames old → IsTaken octets frames new
-read-end octets frames old new end same within ends is =
+read_end octets frames old new end same within ends is =
     subst (λ (s : Side). IsTaken octets frames s) (sym same) (record {
       sequence = (is.stand, ends-there octets frames old end within ends is);
       kept = λ some. record { stand = is.stand; rest = is.rest; count = is.count };

@@ -3,7 +3,6 @@
 ghost use Rattle.std.specs.Prelude.{◌≡◌, ◌≢◌, ◌≤◌, ◌<◌, ◌+◌, ◌++◌, ◌∷◌, [], ℕ, List, OnOk, IfOk};
 ghost use Rattle.amqp_frame.specs.declared.frame.Frame.{Frame as AnyFrame};
 ghost use Rattle.amqp_check.specs.Hearing.{HasHeard};
-ghost use Rattle.amqp_judge.specs.Taken.{HasHeardClient};
 
 use crate::side::{Ending, Side, Unjudged};
 use amqp_check::{Finding, Judge};
@@ -24,6 +23,8 @@ pub struct Client {
 }
 
 impl Client {
+    ghost use Rattle.amqp_judge.specs.Taken.{HasHeardClient};
+
     /// No octet came.
     pub fn new(alloc: Global) -> Result<Client, NoMemory>
         ensures { IfOk result (λ client. HasHeardClient [] client) }
@@ -59,6 +60,7 @@ impl Client {
     }
 
     /// Takes a further piece of octets. Behind what is no frame nothing is read.
+    #[tactic(auto, using(crate::proofs::Pieces::taken_more))]
     pub fn take(&mut self, alloc: Global, piece: &[u8]) -> Result<(), Unjudged>
         ensures { (octets : List ℕ) → HasHeardClient octets self.old
             → OnOk result (HasHeardClient (octets ++ piece.now) self.new) }

@@ -2,7 +2,6 @@
 
 ghost use Rattle.std.specs.Prelude.{◌++◌, [], ℕ, List, IfOk, OnOk};
 ghost use Rattle.amqp_check.specs.Verdicts.{IsVerdict};
-ghost use Rattle.amqp_judge.specs.Taken.{HasTakenSides};
 
 use crate::client::Client;
 use crate::server::Server;
@@ -20,6 +19,8 @@ pub struct Judging {
 }
 
 impl Judging {
+    ghost use Rattle.amqp_judge.specs.Taken.{HasTakenSides};
+
     /// Nothing was taken.
     pub fn new(alloc: Global) -> Result<Judging, NoMemory>
         ensures { IfOk result (λ judging. HasTakenSides [] [] judging) }

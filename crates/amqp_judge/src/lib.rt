@@ -9,12 +9,12 @@ mod client;
 mod judging;
 mod server;
 mod side;
-mod told;
+mod telling;
 mod words;
 
 pub use client::Client;
 pub use judging::Judging;
 pub use server::Server;
 pub use side::{Ending, MOST_UNREAD, Side, Unjudged};
-pub use told::{told, verdict_line};
+pub use telling::{told, verdict_line};
 pub use words::{HELP_TEXT, asked, run};

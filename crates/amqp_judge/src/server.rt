@@ -1,7 +1,6 @@
 //! The server's side, whose frames are counted.
 
 ghost use Rattle.std.specs.Prelude.{◌≡◌, ◌≢◌, ◌≤◌, ◌<◌, ◌+◌, ◌++◌, [], ℕ, List, OnOk};
-ghost use Rattle.amqp_judge.specs.Taken.{HasCountedServer};
 
 use crate::side::{Ending, Side, Unjudged};
 use amqp_check::{Closing, closing_in};
@@ -19,6 +18,8 @@ pub struct Server {
 }
 
 impl Server {
+    ghost use Rattle.amqp_judge.specs.Taken.{HasCountedServer};
+
     /// No octet came.
     pub fn new(alloc: Global) -> Server
         ensures { HasCountedServer [] result }
@@ -50,6 +51,7 @@ impl Server {
     }
 
     /// Takes a further piece of octets. Behind what is no frame nothing is read.
+    #[tactic(auto, using(crate::proofs::Pieces::taken_more))]
     pub fn take(&mut self, alloc: Global, piece: &[u8]) -> Result<(), Unjudged>
         ensures { (octets : List ℕ) → HasCountedServer octets self.old
             → OnOk result (HasCountedServer (octets ++ piece.now) self.new) }

@@ -3,7 +3,6 @@
 ghost use Rattle.std.specs.Prelude.{◌≡◌, ◌≢◌, ◌≤◌, ◌<◌, ◌+◌, ◌-◌, ◌^◌, ◌∷◌, ◌++◌, [], ℕ, List, length};
 ghost use Rattle.std.specs.Prelude.{IfOk, OnOk, IfSome, IfNone, Err, ◌⊎◌, drop};
 ghost use Rattle.amqp_frame.specs.declared.frame.Frame.{Frame as AnyFrame};
-ghost use Rattle.amqp_judge.specs.Taken.{IsReadUpTo, IsTaken, ending_for as ending_of_end};
 
 use amqp_check::{End, Next, read_next};
 use amqp_frame::Frame;
@@ -54,14 +53,19 @@ pub enum Ending {
     Bad,
 }
 
-// How the octets end, by what stands where the next frame would begin.
-fn ending_for(end: End) -> Ending
-    ensures { result ≡ ending_of_end end }
-{
-    match end {
-        End::Whole => Ending::Whole,
-        End::Cut(_) => Ending::Cut,
-        End::Bad(_) => Ending::Bad,
+impl Ending {
+    ghost use Rattle.std.specs.Prelude.{◌≡◌};
+    ghost use Rattle.amqp_judge.specs.Taken.{ending_for};
+
+    // How the octets end, by what stands where the next frame would begin.
+    fn of(end: End) -> Ending
+        ensures { result ≡ ending_for end }
+    {
+        match end {
+            End::Whole => Ending::Whole,
+            End::Cut(_) => Ending::Cut,
+            End::Bad(_) => Ending::Bad,
+        }
     }
 }
 
@@ -79,6 +83,8 @@ pub struct Side {
 }
 
 impl Side {
+    ghost use Rattle.amqp_judge.specs.Taken.{IsReadUpTo, IsTaken};
+
     /// No octet came.
     pub fn new(alloc: Global) -> Side
         ensures taken { IsTaken [] [] result }
@@ -127,6 +133,7 @@ impl Side {
     }
 
     /// Keeps a further piece. The octets that were read are let go before.
+    #[tactic(auto, using(crate::proofs::Pieces::read_more))]
     pub fn push(&mut self, alloc: Global, piece: &[u8]) -> Result<(), Unjudged>
         ensures read { (octets : List ℕ) (frames : List AnyFrame) → IsReadUpTo octets frames self.old
             → OnOk result (IsReadUpTo (octets ++ piece.now) frames self.new) }
@@ -145,6 +152,7 @@ impl Side {
     }
 
     /// Reads the next frame; none, where no whole one stands, which then is how the octets end so far.
+    #[tactic(auto, using(crate::proofs::Pieces::read_frame, crate::proofs::Pieces::read_end))]
     pub fn next(&mut self, alloc: Global) -> Result<Option<Frame>, NoMemory>
         ensures frame { IfOk result (λ next. IfSome next (λ f. (octets : List ℕ) (frames : List AnyFrame)
             → IsReadUpTo octets frames self.old → IsReadUpTo octets (frames ++ f ∷ []) self.new)) }
@@ -162,7 +170,7 @@ impl Side {
                 Ok(Some(frame))
             }
             Next::End(end) => {
-                self.ending = ending_for(end);
+                self.ending = Ending::of(end);
                 Ok(None)
             }
         }

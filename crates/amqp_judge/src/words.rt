@@ -2,7 +2,7 @@
 
 use crate::judging::Judging;
 use crate::side::Unjudged;
-use crate::told::{told, verdict_line};
+use crate::telling::{told, verdict_line};
 use amqp_check::Verdict;
 use amqp_types::{NoMemory, Text};
 use std::alloc::{AllocGlobal, Global};

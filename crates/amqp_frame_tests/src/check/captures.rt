@@ -3,7 +3,6 @@
 
 use crate::check::support::octets;
 use amqp_check::{Verdict, check};
-use amqp_judge::{Judging, Unjudged};
 use amqp_types::NoMemory;
 use amqp_vectors::{
     BODY_1, CHANNEL_CLOSE_1, CHANNEL_CLOSE_OK_1, CHANNEL_OPEN_1, CLOSE, CLOSE_OK, CONTENT_HEADER_1,
@@ -222,54 +221,10 @@ fn verdict_on(alloc: Global, capture: &Capture) -> Result<Verdict, NoMemory> {
     check(alloc, &client, &server)
 }
 
-// Takes both sides of a capture in pieces of so many octets.
-fn take_both(
-    alloc: Global,
-    judging: &mut Judging,
-    client: &[u8],
-    server: &[u8],
-    size: usize,
-) -> Result<(), Unjudged> {
-    for piece in client.chunks(size) {
-        judging.client(alloc, piece)?;
-    }
-    for piece in server.chunks(size) {
-        judging.server(alloc, piece)?;
-    }
-    Ok(())
-}
-
-// The verdict on a capture that comes in pieces of so many octets.
-fn verdict_in_pieces(alloc: Global, capture: &Capture, size: usize) -> Result<Verdict, NoMemory> {
-    let client = octets(alloc, capture.client)?;
-    let server = octets(alloc, capture.server)?;
-    let mut judging = Judging::new(alloc)?;
-    let taken = take_both(alloc, &mut judging, &client, &server, size);
-    let verdict = judging.verdict();
-    drop(judging);
-    match taken {
-        Ok(()) => Ok(verdict),
-        Err(_) => Err(NoMemory),
-    }
-}
-
-/// How many octets the pieces have in which captures come.
-const SIZES: [usize; 3] = [1, 7, 400];
-
-// Whether a capture has its verdict, also where it comes in pieces.
-fn has_its_verdict(alloc: Global, capture: &Capture) -> Result<bool, NoMemory> {
-    for size in SIZES {
-        if verdict_in_pieces(alloc, capture, size)? != capture.verdict {
-            return Ok(false);
-        }
-    }
-    Ok(verdict_on(alloc, capture)? == capture.verdict)
-}
-
 // The first capture, counted from 0, that has another verdict.
 fn first_other(alloc: Global, captures: &[Capture]) -> Result<Option<usize>, NoMemory> {
     for (number, capture) in captures.iter().enumerate() {
-        if !has_its_verdict(alloc, capture)? {
+        if verdict_on(alloc, capture)? != capture.verdict {
             return Ok(Some(number));
         }
     }
@@ -294,7 +249,7 @@ fn first_of_all(alloc: Global) -> Result<Option<(&'static str, usize)>, NoMemory
 }
 
 // Of legal conversations the frames are counted, of an illegal one the first illegal frame is told, and a
-// side that is no frames is told first; and so it is where both sides come in pieces.
+// side that is no frames is told first.
 #[test]
 fn captures_have_their_verdicts(rt: HostRuntime) -> Result<(), NoMemory> {
     assert_eq!(rt; first_of_all(rt.alloc())?, None);

@@ -1,22 +1,14 @@
 //! What a client says from a border of frames on.
 
+use crate::support::octets;
 use amqp_check::Verdict;
 use amqp_resumed::{LateFinding, check_from, first_wrong};
 use amqp_types::NoMemory;
 use amqp_vectors::{
     CHANNEL_CLOSE_1, CHANNEL_CLOSE_OK_1, CHANNEL_OPEN_1, CLOSE, CLOSE_OK, CONTENT_HEADER_1, HEADER,
-    HEARTBEAT, METHOD_1, OPEN, START_OK, TUNE_OK, push_octets,
+    HEARTBEAT, METHOD_1, OPEN, START_OK, TUNE_OK,
 };
 use std::alloc::Global;
-
-// The octets of texts in hexadecimal, one after another.
-fn octets(alloc: Global, texts: &[&str]) -> Result<Vec<u8>, NoMemory> {
-    let mut bytes = Vec::new(alloc);
-    for text in texts {
-        push_octets(&mut bytes, text)?;
-    }
-    Ok(bytes)
-}
 
 // A body of 2 octets on channel 1, and one of 1.
 const WHOLE_BODY_1: &str = "03 0001 00000002 6869 ce";

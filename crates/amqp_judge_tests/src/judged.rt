@@ -1,6 +1,7 @@
 //! What is said of a link whose octets came in pieces.
 
-use crate::check::support::octets;
+use crate::support::octets;
+use amqp_check::check;
 use amqp_judge::{Judging, Unjudged, told, verdict_line};
 use amqp_types::NoMemory;
 use amqp_vectors::{
@@ -72,23 +73,46 @@ a heartbeat comes next, or a method that its channel allows",
     },
 ];
 
-// Takes both sides of a row, three octets at a time.
-fn take(alloc: Global, row: &Row, judging: &mut Judging) -> Result<(), Unjudged> {
-    let client = octets(alloc, row.client)?;
-    for piece in client.chunks(3) {
+/// How many octets the pieces have in which both sides come.
+const SIZES: [usize; 3] = [1, 7, 400];
+
+// Takes both sides in pieces of so many octets.
+fn take(
+    alloc: Global,
+    judging: &mut Judging,
+    client: &[u8],
+    server: &[u8],
+    size: usize,
+) -> Result<(), Unjudged> {
+    for piece in client.chunks(size) {
         judging.client(alloc, piece)?;
     }
-    let server = octets(alloc, row.server)?;
-    for piece in server.chunks(3) {
+    for piece in server.chunks(size) {
         judging.server(alloc, piece)?;
     }
     Ok(())
 }
 
-// Whether this is said of a row.
-fn is_said(alloc: Global, row: &Row) -> Result<bool, NoMemory> {
+// Whether the verdict on both sides, in pieces of so many octets, is that of `check`.
+fn is_verdict(alloc: Global, client: &[u8], server: &[u8], size: usize) -> Result<bool, NoMemory> {
     let mut judging = Judging::new(alloc)?;
-    let taken = take(alloc, row, &mut judging);
+    let taken = take(alloc, &mut judging, client, server, size);
+    let verdict = judging.verdict();
+    drop(judging);
+    Ok(taken == Ok(()) && verdict == check(alloc, client, server)?)
+}
+
+// Whether this is said of a row, which comes in two pieces.
+fn is_said(alloc: Global, row: &Row) -> Result<bool, NoMemory> {
+    let client = octets(alloc, row.client)?;
+    let server = octets(alloc, row.server)?;
+    for size in SIZES {
+        if !is_verdict(alloc, &client, &server, size)? {
+            return Ok(false);
+        }
+    }
+    let mut judging = Judging::new(alloc)?;
+    let taken = take(alloc, &mut judging, &client, &server, 300);
     let verdict = judging.verdict();
     let said = told(alloc, judging)?;
     let line = verdict_line(alloc, verdict)?;
