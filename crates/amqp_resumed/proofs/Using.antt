@@ -31,6 +31,19 @@ usage-again n u v g = fun_ext (λ k. by k (k == n) refl) where
   by k true h = if-true (k == n) v (with_usage n u g k) h ∙ sym (if-true (k == n) v (g k) h)
   by k false h = if-false (k == n) v (with_usage n u g k) h ∙ if-false (k == n) u (g k) h ∙ sym (if-false (k == n) v (g k) h)
 
+-- the usages where one channel's is another
+pub own-usage : (n : ℕ) (u : Usage) (v : ℕ → Usage) → with_usage n u v n ≡ u
+own-usage n u v = by (n == n) refl where
+  by : (b : Bool) → (n == n) ≡ b → with_usage n u v n ≡ u
+  by true is = if-true (n == n) u (v n) is
+  by false is = absurd (let same : (n == n) ≡ true = grind nat_tests in cc)
+
+pub other-usage : (n k : ℕ) (u : Usage) (v : ℕ → Usage) → n ≢ k → with_usage n u v k ≡ v k
+other-usage n k u v ne = by (k == n) refl where
+  by : (b : Bool) → (k == n) ≡ b → with_usage n u v k ≡ v k
+  by true is = absurd (ne (let e : k ≡ n = grind (arith, nat_tests) in sym e))
+  by false is = if-false (k == n) u (v k) is
+
 -- ---- frames that are no methods on a channel
 
 -- with the usages of another conversation

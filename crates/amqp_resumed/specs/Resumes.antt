@@ -70,10 +70,15 @@ pub record HasHeardRest (frames : List Frame) (l : Late) : Type 0 where
   pub each_is_led_to : (s : Speech) (changes : List (ℕ × Usage)) → s.usage ≡ usage_by changes → s.stage ≢ CloseOkSaid
       → FitsHeard l s → IsLedTo frames s
 
+-- the conversation that is kept has finitely many channels that changed, and a channel that is not known is not open
+pub record IsKept (l : Late) : Type 0 where
+  pub finite : (changes : List (ℕ × Usage)) × (l.said.usage ≡ usage_by changes)
+  pub shut : (n : ℕ) → l.known n ≡ false → l.said.usage n ≡ Shut
+
 -- no frame was heard, and nothing is known; or these were
 abbrev pub HasResumedAt : List Frame → Heard → Late → Type 0
 HasResumedAt frames heard.Nothing l = (frames ≡ []) × (l.said ≡ greeted) × (l.known ≡ λ n. false)
-HasResumedAt frames _ l = (frames ≢ []) × HasHeardRest frames l
+HasResumedAt frames _ l = (frames ≢ []) × IsKept l × HasHeardRest frames l
 
 -- these frames were heard since some border
 abbrev pub HasResumed : List Frame → Resumed → Type 0
