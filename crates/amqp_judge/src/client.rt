@@ -60,7 +60,6 @@ impl Client {
     }
 
     /// Takes a further piece of octets. Behind what is no frame nothing is read.
-    #[tactic(auto, using(crate::proofs::Pieces::taken_more))]
     pub fn take(&mut self, alloc: Global, piece: &[u8]) -> Result<(), Unjudged>
         ensures { (octets : List ℕ) → HasHeardClient octets self.old
             → OnOk result (HasHeardClient (octets ++ piece.now) self.new) }

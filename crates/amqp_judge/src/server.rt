@@ -51,7 +51,6 @@ impl Server {
     }
 
     /// Takes a further piece of octets. Behind what is no frame nothing is read.
-    #[tactic(auto, using(crate::proofs::Pieces::taken_more))]
     pub fn take(&mut self, alloc: Global, piece: &[u8]) -> Result<(), Unjudged>
         ensures { (octets : List ℕ) → HasCountedServer octets self.old
             → OnOk result (HasCountedServer (octets ++ piece.now) self.new) }

@@ -121,7 +121,7 @@ impl Side {
     fn let_go(&mut self, alloc: Global) -> Result<(), AllocError>
         ensures rest { OnOk result (self.new.unread.items ≡ drop self.old.at self.old.unread.items) }
         ensures at { OnOk result (self.new.at ≡ 0) }
-        ensures place { OnOk result (self.new.place ≡ self.old.place) }
+        ensures place { self.new.place ≡ self.old.place }
     {
         if self.at == 0 {
             return Ok(());
@@ -133,11 +133,10 @@ impl Side {
     }
 
     /// Keeps a further piece. The octets that were read are let go before.
-    #[tactic(auto, using(crate::proofs::Pieces::read_more))]
     pub fn push(&mut self, alloc: Global, piece: &[u8]) -> Result<(), Unjudged>
         ensures read { (octets : List ℕ) (frames : List AnyFrame) → IsReadUpTo octets frames self.old
             → OnOk result (IsReadUpTo (octets ++ piece.now) frames self.new) }
-        ensures place { OnOk result (self.new.place ≡ self.old.place) }
+        ensures place { self.new.place ≡ self.old.place }
         ensures too_long { result ≡ Err Unjudged.TooLong
             → (MOST_UNREAD < length self.old.unread.items - self.old.at + length piece.now)
             ⊎ (2 ^ 64 ≤ self.old.place + (length self.old.unread.items - self.old.at) + length piece.now) }
@@ -152,7 +151,7 @@ impl Side {
     }
 
     /// Reads the next frame; none, where no whole one stands, which then is how the octets end so far.
-    #[tactic(auto, using(crate::proofs::Pieces::read_frame, crate::proofs::Pieces::read_end))]
+    #[tactic(auto, using(crate::proofs::Pieces::read_end))]
     pub fn next(&mut self, alloc: Global) -> Result<Option<Frame>, NoMemory>
         ensures frame { IfOk result (λ next. IfSome next (λ f. (octets : List ℕ) (frames : List AnyFrame)
             → IsReadUpTo octets frames self.old → IsReadUpTo octets (frames ++ f ∷ []) self.new)) }
@@ -161,7 +160,7 @@ impl Side {
         ensures further { IfOk result (λ next. IfSome next (λ f. self.old.place < self.new.place)) }
         ensures fewer { IfOk result (λ next. IfSome next (λ f.
             length self.new.unread.items - self.new.at < length self.old.unread.items - self.old.at)) }
-        ensures place { IfOk result (λ next. IfNone next (self.new.place ≡ self.old.place)) }
+        ensures on { self.old.place ≤ self.new.place }
     {
         match read_next(alloc, &self.unread, self.at)? {
             Next::Frame(frame, used) => {

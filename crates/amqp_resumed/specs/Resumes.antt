@@ -101,3 +101,70 @@ abbrev pub may_say_method : Stage → Content → Bool
 may_say_method OpenSaid (BodyMissing n (suc missing)) = false
 may_say_method OpenSaid content = true
 may_say_method stage content = false
+
+-- a channel's usage is known now
+abbrev pub with_known : ℕ → (ℕ → Bool) → ℕ → Bool
+with_known n known k = if k == n then true else known k
+
+-- the conversation that is kept says a frame, where it may
+abbrev pub said_as : Late → Option Speech → Option Late
+said_as l None = None
+said_as l (Some s) = Some (record l { said = s })
+
+-- or stays as it is where it may not
+abbrev pub said_or_same : Option Speech → Speech → Speech
+said_or_same None s = s
+said_or_same (Some t) s = t
+
+-- a channel was opened before what was heard
+abbrev pub opened : ℕ → Late → Late
+opened n l = record l {
+  said = said_or_same (say (Method n ChannelOpen) l.said) l.said;
+  known = with_known n l.known;
+}
+
+-- the opening of a channel
+abbrev pub is_opening : Frame → Bool
+is_opening (Method n ChannelOpen) = true
+is_opening f = false
+
+-- the first method on a channel, which was opened before it, where it is no opening itself
+abbrev pub first_on : ℕ → Frame → Late → Option Late
+first_on n f l =
+    if is_opening f then said_as (record l { known = with_known n l.known }) (say f l.said)
+    else said_as (opened n l) (say f (opened n l).said)
+
+-- a frame where it is known which content may go on, by the channel on which it is a method
+abbrev pub say_on : Option ℕ → Frame → Late → Option Late
+say_on None f l = said_as l (say f l.said)
+say_on (Some n) f l =
+    if l.known n then said_as l (say f l.said)
+    else if may_say_method l.said.stage l.said.content then first_on n f l else None
+
+-- a frame where it is known which content may go on
+abbrev pub say_known : Frame → Late → Option Late
+say_known f l = say_on (channel_used f) f l
+
+-- from then on it is
+abbrev pub heard_on : Option Late → Option Late
+heard_on None = None
+heard_on (Some l) = Some (record l { heard = heard.Frames })
+
+-- a frame behind frames of a body alone
+abbrev pub say_in_body : ℕ → Frame → Late → Option Late
+say_in_body n (Raw k Body body) l = if k == n && nat_le 1 (length body) then Some l else None
+say_in_body n f l = heard_on (say_known f l)
+
+-- a frame where so many octets of a body are missing
+abbrev pub say_to : ℕ → ℕ → Frame → Late → Option Late
+say_to n missing (Raw k Body body) l =
+    if k == n && (nat_le 1 (length body) && nat_le (length body) missing)
+    then Some (record l { heard = heard.Missing n (missing - length body) })
+    else None
+say_to n missing (Method zero CloseOk) l = heard_on (say_known (Method zero CloseOk) l)
+say_to n missing f l = if missing == 0 then heard_on (say_known f l) else None
+
+-- a frame may be said, and this was heard then; or it may not
+abbrev pub JudgedLate : Option Late → Bool → Resumed → Type 0
+JudgedLate next true new = next ≡ Some (late_of new)
+JudgedLate next false new = next ≡ None

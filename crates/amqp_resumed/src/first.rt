@@ -1,8 +1,12 @@
 //! Frames that lead a speech to a stage: what a client that says nothing of itself says first.
 
+ghost use Rattle.std.specs.Prelude.{◌≡◌};
+ghost use Rattle.amqp_legal.specs.Decider.{is_passed_through};
+ghost use Rattle.amqp_resumed.specs.Resumes.{channel_used as channel_used_by};
+
 use crate::resumed::Heard;
 use amqp_frame::{Frame, Method, RawKind};
-use amqp_legal::{Speech, Stage};
+use amqp_legal::Speech;
 use amqp_types::{ChannelId, FieldTable, LongString, ShortString};
 use std::alloc::Global;
 
@@ -65,7 +69,9 @@ pub fn is_of_introduction(frame: &Frame) -> bool {
 }
 
 // Whether class and method of a payload are those of a method that is passed through.
-fn is_passed_through(payload: &[u8]) -> bool {
+fn is_passed_through(payload: &[u8]) -> bool
+    ensures { result ≡ is_passed_through payload.now }
+{
     match payload {
         [a, b, _, _, ..] => !matches!(u16::from_be_bytes([*a, *b]), 10 | 20),
         _ => false,
@@ -73,7 +79,9 @@ fn is_passed_through(payload: &[u8]) -> bool {
 }
 
 /// The channel on which a frame is a method that may be said there, by some usage of the channel.
-pub fn channel_used(frame: &Frame) -> Option<ChannelId> {
+pub fn channel_used(frame: &Frame) -> Option<ChannelId>
+    ensures { result ≡ channel_used_by frame.now }
+{
     match frame {
         Frame::Method(0, _) | Frame::Raw(0, _, _) => None,
         Frame::Method(

@@ -42,7 +42,8 @@ pub struct Resumed {
 impl Resumed {
     ghost use Rattle.amqp_frame.specs.declared.frame.Frame.{Frame as AnyFrame};
     ghost use Rattle.amqp_resumed.specs.Rests.{IsLegalRest};
-    ghost use Rattle.amqp_resumed.specs.Resumes.{HasResumed};
+    ghost use Rattle.amqp_resumed.specs.Resumes.{HasResumed, JudgedLate, late_of, opened, with_known};
+    ghost use Rattle.amqp_resumed.specs.Resumes.{say_known, say_in_body, say_to, heard_on, may_say_method};
 
     /// Nothing was heard.
     pub fn new(alloc: Global) -> Result<Resumed, NoMemory>
@@ -84,7 +85,9 @@ impl Resumed {
     }
 
     // Whether the usage of a channel is known.
-    fn is_known(&self, channel: ChannelId) -> bool {
+    fn is_known(&self, channel: ChannelId) -> bool
+        ensures { result ≡ (late_of self.now).known channel }
+    {
         self.is_whole || self.known[channel as usize]
     }
 
@@ -135,7 +138,9 @@ impl Resumed {
     }
 
     // A frame behind frames of a body alone: one more of them, or what is said behind the last.
-    fn go_on_in_body(&mut self, channel: ChannelId, frame: &Frame) -> bool {
+    fn go_on_in_body(&mut self, channel: ChannelId, frame: &Frame) -> bool
+        ensures { JudgedLate (say_in_body channel frame.now (late_of self.old)) result self.new }
+    {
         match frame {
             Frame::Raw(other, RawKind::Body, payload) => *other == channel && !payload.is_empty(),
             _ => self.leave(frame),
@@ -143,7 +148,9 @@ impl Resumed {
     }
 
     // A frame where so many octets of a body are missing.
-    fn go_on_to(&mut self, channel: ChannelId, missing: u64, frame: &Frame) -> bool {
+    fn go_on_to(&mut self, channel: ChannelId, missing: u64, frame: &Frame) -> bool
+        ensures { JudgedLate (say_to channel missing frame.now (late_of self.old)) result self.new }
+    {
         match frame {
             Frame::Raw(other, RawKind::Body, payload) => {
                 let len = payload.len() as u64;
@@ -159,7 +166,9 @@ impl Resumed {
     }
 
     // A frame that is no part of a content that was begun before.
-    fn leave(&mut self, frame: &Frame) -> bool {
+    fn leave(&mut self, frame: &Frame) -> bool
+        ensures { JudgedLate (heard_on (say_known frame.now (late_of self.old))) result self.new }
+    {
         let is_said = self.say_known(frame);
         if is_said {
             self.heard = Heard::Frames;
@@ -168,7 +177,9 @@ impl Resumed {
     }
 
     // Says a frame where it is known which content may go on.
-    fn say_known(&mut self, frame: &Frame) -> bool {
+    fn say_known(&mut self, frame: &Frame) -> bool
+        ensures { JudgedLate (say_known frame.now (late_of self.old)) result self.new }
+    {
         match channel_used(frame) {
             Some(channel) if !self.is_known(channel) => self.say_first_on(channel, frame),
             _ => self.said.say(frame),
@@ -176,7 +187,9 @@ impl Resumed {
     }
 
     // Whether a method may be said now, by some usage of its channel.
-    fn may_say_method(&self) -> bool {
+    fn may_say_method(&self) -> bool
+        ensures { result ≡ may_say_method (late_of self.now).said.stage (late_of self.now).said.content }
+    {
         self.said.stage() == Stage::OpenSaid
             && match self.said.content() {
                 Content::BodyMissing(_, missing) => missing == 0,
@@ -197,7 +210,9 @@ impl Resumed {
     }
 
     // Opens a channel that was opened before what was heard.
-    fn open(&mut self, channel: ChannelId) {
+    fn open(&mut self, channel: ChannelId)
+        ensures { late_of self.new ≡ opened channel (late_of self.old) }
+    {
         let opening = Frame::Method(channel, Method::ChannelOpen);
         let _ = self.said.say(&opening);
         drop(opening);
