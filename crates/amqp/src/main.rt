@@ -115,6 +115,9 @@ fn main(rt: HostRuntime) -> ExitCode {
         Ok(words) => words,
         Err(stop) => return ExitCode::from(explain(&rt, "amqp", HELP_TEXT, stop)),
     };
+    if let Some(rest) = amqp_judge::asked(&words) {
+        return ExitCode::from(amqp_judge::run(&rt, alloc, rest));
+    }
     ExitCode::from(match job_of(&words) {
         Some((Job::Publish, rest)) => published(rt, alloc, rest),
         Some((Job::Consume, rest)) => consumed(rt, alloc, rest),
