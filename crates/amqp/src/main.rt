@@ -42,6 +42,8 @@ use std::time::Clock;
 
 const HELP_TEXT: &str = "usage: amqp publish [OPTION..] URI EXCHANGE KEY
        amqp consume [OPTION..] URI QUEUE [COUNT]
+       amqp judge CLIENT SERVER
+       amqp double PORT [COUNT]
        amqp publish --help
        amqp consume --help
 
@@ -117,6 +119,9 @@ fn main(rt: HostRuntime) -> ExitCode {
     };
     if let Some(rest) = amqp_judge::asked(&words) {
         return ExitCode::from(amqp_judge::run(&rt, alloc, rest));
+    }
+    if let Some(rest) = amqp_double_port::asked(&words) {
+        return ExitCode::from(amqp_double_port::run(&rt, alloc, rest));
     }
     ExitCode::from(match job_of(&words) {
         Some((Job::Publish, rest)) => published(rt, alloc, rest),
