@@ -1,4 +1,5 @@
-//! A client of a broker, by a word: `amqp publish` publishes, and `amqp consume` prints and acknowledges.
+//! A client of a broker, by a word: `amqp publish` publishes, and `amqp consume` prints and acknowledges. `amqp judge`
+//! judges a captured link, and `amqp double` is a server for clients that are tried.
 //!
 //! | word | what it says |
 //! |---|---|

@@ -1,6 +1,6 @@
 //! What the words behind `double` ask for.
 
-ghost use Rattle.std.specs.Prelude.{◌≡◌, ◌^◌, IfSome};
+ghost use Rattle.std.specs.Prelude.{◌≡◌, ◌^◌, IfSome, IfNone};
 ghost use Rattle.amqp_double_port.specs.Asked.{IsNumberBelow, IsAskedBy};
 
 use amqp_types::Text;
@@ -42,7 +42,8 @@ fn port_of(word: &str) -> Option<u16>
 
 /// What the words ask for, where they are a port, or that and how many clients.
 pub fn asked_of(words: &[Text]) -> Option<Asked>
-    ensures { IfSome result (IsAskedBy words.now) }
+    ensures asked { IfSome result (IsAskedBy words.now) }
+    ensures none { IfNone result ((asked : Asked) → IsAskedBy words.now asked → ⊥) }
 {
     match words {
         [port] => Some(Asked {

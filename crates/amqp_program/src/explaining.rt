@@ -4,6 +4,7 @@
 use crate::captured::{Capture, Captured, Side, line_of_octet, read_capture};
 use crate::refused::why_refused;
 use amqp_check::{Broken, Verdict, check, first_illegal, last_close, other_protocol};
+use amqp_resumed::first_wrong;
 use amqp_types::NoMemory;
 use std::alloc::Global;
 
@@ -77,7 +78,27 @@ fn put_illegal(
     put_line(out, alloc, Side::Client, place, text)?;
     out.push_str(&shown?)?;
     put_protocol(out, place, client)?;
+    if place == 0 {
+        put_late(out, alloc, text, client)?;
+    }
     Ok(true)
+}
+
+// Writes what the client's frames are if a conversation began before them, where no protocol header begins them.
+fn put_late(out: &mut String, alloc: Global, text: &[u8], client: &[u8]) -> Result<(), NoMemory> {
+    if client.starts_with(b"AMQP") {
+        return Ok(());
+    }
+    let Some(finding) = first_wrong(alloc, client)? else {
+        out.push_str("\nif it began before, its whole frames are the rest of a legal conversation")?;
+        return Ok(());
+    };
+    let place = finding.place;
+    let shown = format!(in alloc; "{finding}");
+    drop(finding);
+    out.push_str("\nif it began before:\n")?;
+    put_line(out, alloc, Side::Client, place, text)?;
+    Ok(out.push_str(&shown?)?)
 }
 
 // Whether the client's side has a whole frame, where the verdict is that a side ends in what is none.
@@ -152,8 +173,8 @@ fn explain_sides(alloc: Global, text: &[u8], sides: &Captured) -> Result<Option<
 
 /// What is to be said of the capture that a text is. Where the verdict on it is another than that it is
 /// legal: in three lines where, what stands there or was said before it, and what may stand there; then what else it
-/// looks like, whether the client's whole frames are legal, and how the server closed last, where it did so with an
-/// error. Where one of its lines is refused: which and why. Else nothing, but for that close.
+/// looks like, what it is if it began before the capture, whether the client's whole frames are legal, and how the
+/// server closed last, where it did so with an error. Where one of its lines is refused: which and why. Else nothing, but for that close.
 pub fn explain(alloc: Global, text: &[u8]) -> Result<Option<String>, NoMemory> {
     match read_capture(alloc, text)? {
         Capture::Refused(number) => why_refused(alloc, text, number),
