@@ -8,8 +8,7 @@ use Rattle.amqp_legal.specs.declared.progress.Usage.{Usage}
 use Rattle.amqp_legal.proofs.Saying.{all-said, one-more, front-legal}
 use Rattle.amqp_legal.proofs.Sayable.{say-append, front-said}
 use Rattle.amqp_types.proofs.Small.{if-true, if-false}
-use Rattle.amqp_resumed.specs.Rests.{IsLegalRest}
-use Rattle.amqp_resumed.specs.Resumes.{Late, led_to, usage_by, FitsHeard, IsLedTo, HasHeardRest}
+use Rattle.amqp_resumed.specs.Resumes.{led_to}
 
 -- ---- what leads where
 
@@ -56,39 +55,3 @@ legal-led (x ∷ xs) some legal =
 -- behind our close-ok nothing is said
 pub alive : (g : Frame) (s t : Speech) → say g s ≡ Some t → s.stage ≢ CloseOkSaid
 alive g s t h over = let none : say g s ≡ None = ap (λ st. in_stage st g s) over in absurd cc
-
--- ---- a frame leads from what was heard to what is heard then
-
--- each conversation that fits and may say it fits then; each that fits then and goes on was one; and there is one
-pub record Advances (g : Frame) (l m : Late) : Type 0 where
-  pub fits : (s t : Speech) → FitsHeard l s → say g s ≡ Some t → FitsHeard m t
-  pub back : (t : Speech) (changes : List (ℕ × Usage)) → t.usage ≡ usage_by changes → t.stage ≢ CloseOkSaid → FitsHeard m t
-      → (s : Speech) × (before : List (ℕ × Usage)) × (s.usage ≡ usage_by before) × FitsHeard l s × (say g s ≡ Some t)
-  pub one : (s : Speech) × (t : Speech) × (changes : List (ℕ × Usage)) × (s.usage ≡ usage_by changes) × FitsHeard l s × (say g s ≡ Some t)
-
-no-nil : (before frames : List Frame) → frames ≢ [] → before ++ frames ≢ []
-no-nil [] frames some h = some h
-no-nil (x ∷ before) frames some h = absurd cc
-
-pub heard-more : (frames : List Frame) (g : Frame) (l m : Late) → frames ≢ [] → Advances g l m → HasHeardRest frames l → HasHeardRest (frames ++ g ∷ []) m
-heard-more frames g l m some a has = record {
-  rest =
-      let led = has.each_is_led_to a.one.0 a.one.2 a.one.3 (alive g a.one.0 a.one.1 a.one.5) a.one.4 in
-      (led.0, subst Legal (append_assoc led.0 frames (g ∷ [])) (led-legal ((led.0 ++ frames) ++ g ∷ []) a.one.1 (led-more (led.0 ++ frames) g a.one.0 led.1 ∙ a.one.5)));
-  all_fit = λ before t led.
-      let back = led-back (before ++ frames) g t (no-nil before frames some) (ap led_to (append_assoc before frames (g ∷ [])) ∙ led) in
-      a.fits back.0 t (has.all_fit before back.0 back.1) back.2;
-  each_is_led_to = λ t changes finite going fits.
-      let s = a.back t changes finite going fits in
-      let led = has.each_is_led_to s.0 s.1 s.2 (alive g s.0 t s.4) s.3 in
-      (led.0, ap led_to (sym (append_assoc led.0 frames (g ∷ []))) ∙ led-more (led.0 ++ frames) g s.0 led.1 ∙ s.4);
-}
-
--- where no conversation that fits may say it, it is the rest of none
-pub wrong : (frames : List Frame) (g : Frame) (l : Late) → frames ≢ [] → ((s t : Speech) → FitsHeard l s → say g s ≡ Some t → ⊥) → HasHeardRest frames l
-    → IsLegalRest (frames ++ g ∷ []) → ⊥
-wrong frames g l some none has rest =
-    let whole : Legal ((rest.0 ++ frames) ++ g ∷ []) = subst Legal (sym (append_assoc rest.0 frames (g ∷ []))) rest.1 in
-    let led = legal-led ((rest.0 ++ frames) ++ g ∷ []) (no-nil (rest.0 ++ frames) (g ∷ []) (λ h. absurd cc)) whole in
-    let back = led-back (rest.0 ++ frames) g led.0 (no-nil rest.0 frames some) led.1 in
-    none back.0 led.0 (has.all_fit rest.0 back.0 back.1) back.2

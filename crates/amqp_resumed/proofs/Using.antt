@@ -36,7 +36,7 @@ pub own-usage : (n : ℕ) (u : Usage) (v : ℕ → Usage) → with_usage n u v n
 own-usage n u v = by (n == n) refl where
   by : (b : Bool) → (n == n) ≡ b → with_usage n u v n ≡ u
   by true is = if-true (n == n) u (v n) is
-  by false is = absurd (let same : (n == n) ≡ true = grind nat_tests in cc)
+  by false is = absurd (let same : (n == n) ≡ true = grind (arith, nat_tests) in cc)
 
 pub other-usage : (n k : ℕ) (u : Usage) (v : ℕ → Usage) → n ≢ k → with_usage n u v k ≡ v k
 other-usage n k u v ne = by (k == n) refl where

@@ -1,25 +1,24 @@
--- What was heard of a client whose beginning was not heard, and of which conversations it may be the rest.
+-- What was heard of a client whose beginning was not heard, and what it may say next.
 use Rattle.std.specs.Prelude.{◌≡◌, ◌≢◌, ℕ, zero, suc, ◌-◌, ◌==◌, ◌&&◌, ◌||◌, not, nat_le, Bool, true, false, if◌then◌else◌}
-use Rattle.std.specs.Prelude.{List, [], ◌∷◌, ◌++◌, length, Option, Some, None, slice_index_or}
+use Rattle.std.specs.Prelude.{List, [], ◌∷◌, length, Option, Some, None, option_map, slice_index_or}
 use Rattle.amqp_frame.specs.declared.frame.Frame.{Frame}
-use Rattle.amqp_frame.specs.declared.frame.Frame.TheVariants.{Method, Raw}
+use Rattle.amqp_frame.specs.declared.frame.Frame.TheVariants.{ProtocolHeader, Method, Raw}
 use Rattle.amqp_frame.specs.declared.frame.RawKind.TheVariants.{RawMethod, Header, Body}
-use Rattle.amqp_frame.specs.declared.method.Method.TheVariants.{CloseOk, ChannelOpen, ChannelFlow, ChannelFlowOk}
+use Rattle.amqp_frame.specs.declared.method.Method.TheVariants.{StartOk, SecureOk, TuneOk, Open, CloseOk}
+use Rattle.amqp_frame.specs.declared.method.Method.TheVariants.{ChannelOpen, ChannelFlow, ChannelFlowOk}
 use Rattle.amqp_frame.specs.declared.method.Method.TheVariants.{ChannelClose, ChannelCloseOk}
+use Rattle.amqp_legal.specs.Octets.{class_in, weight_in, body_size_in}
 use Rattle.amqp_legal.specs.Decider.{Speech, greeted, say, say_all, is_amqp_header, is_passed_through, with_usage}
 use Rattle.amqp_legal.specs.Speeches.{speech_of}
 use Rattle.amqp_legal.specs.declared.progress.Stage.{Stage}
 use Rattle.amqp_legal.specs.declared.progress.Stage.TheVariants.{OpenSaid, CloseOkSaid}
 use Rattle.amqp_legal.specs.declared.progress.Content.{Content}
-use Rattle.amqp_legal.specs.declared.progress.Content.TheVariants.{NoContent, MethodSaid, BodyMissing}
-use Rattle.amqp_legal.specs.declared.progress.Usage.{Usage}
-use Rattle.amqp_legal.specs.declared.progress.Usage.TheVariants.{Shut, InUse}
-use Rattle.amqp_resumed.specs.Rests.{IsLegalRest}
+use Rattle.amqp_legal.specs.declared.progress.Content.TheVariants.{BodyMissing}
 use Rattle.amqp_resumed.specs.declared.resumed.Heard.{Heard}
 use Rattle.amqp_resumed.specs.declared.resumed.Heard.TheVariants as heard
 use Rattle.amqp_resumed.specs.declared.resumed.Resumed.{Resumed}
 
--- ---- which conversations what was heard may be the rest of
+-- ---- what was heard
 
 -- what was heard, a conversation that it may be the rest of, and the channels whose usage it tells
 pub record Late : Type 0 where
@@ -40,49 +39,22 @@ abbrev pub led_to : List Frame → Option Speech
 led_to [] = None
 led_to (f ∷ frames) = if is_amqp_header f then say_all (Some greeted) frames else None
 
--- the usage of channels in which finitely many changed, none of them channel 0
-abbrev pub usage_by : List (ℕ × Usage) → ℕ → Usage
-usage_by [] = λ n. Shut
-usage_by ((n, u) ∷ changes) = with_usage (suc n) u (usage_by changes)
+-- nothing was heard
+abbrev pub nothing : Late
+nothing = record { heard = heard.Nothing; said = greeted; known = λ n. false }
 
 -- the content of a conversation of which this was heard
 abbrev pub HasContent : Heard → Content → Content → Type 0
-HasContent heard.Nothing kept content = Unit {0}
-HasContent (heard.Body n) kept content = (missing : ℕ) × (content ≡ BodyMissing n missing)
-HasContent (heard.Missing n missing) kept content = content ≡ BodyMissing n missing
-HasContent heard.Frames kept content = content ≡ kept
+HasContent heard.Nothing kept now = Unit {0}
+HasContent (heard.Body n) kept now = (missing : ℕ) × (now ≡ BodyMissing n missing)
+HasContent (heard.Missing n missing) kept now = now ≡ BodyMissing n missing
+HasContent heard.Frames kept now = now ≡ kept
 
 -- a conversation that goes on is as far as what was heard says
 pub record FitsHeard (l : Late) (s : Speech) : Type 0 where
   pub stage : s.stage ≡ l.said.stage
   pub content : s.stage ≢ CloseOkSaid → HasContent l.heard l.said.content s.content
   pub usage : s.stage ≢ CloseOkSaid → (n : ℕ) → l.known n ≡ true → s.usage n ≡ l.said.usage n
-
--- behind some frames these lead there
-abbrev pub IsLedTo : List Frame → Speech → Type 0
-IsLedTo frames s = (before : List Frame) × (led_to (before ++ frames) ≡ Some s)
-
--- these frames were heard. Whatever was said before, the conversation fits; and each that fits and goes on, and in
--- which finitely many channels changed, is led to by them behind some others
-pub record HasHeardRest (frames : List Frame) (l : Late) : Type 0 where
-  pub rest : IsLegalRest frames
-  pub all_fit : (before : List Frame) (s : Speech) → led_to (before ++ frames) ≡ Some s → FitsHeard l s
-  pub each_is_led_to : (s : Speech) (changes : List (ℕ × Usage)) → s.usage ≡ usage_by changes → s.stage ≢ CloseOkSaid
-      → FitsHeard l s → IsLedTo frames s
-
--- the conversation that is kept has finitely many channels that changed, and a channel that is not known is not open
-pub record IsKept (l : Late) : Type 0 where
-  pub finite : (changes : List (ℕ × Usage)) × (l.said.usage ≡ usage_by changes)
-  pub shut : (n : ℕ) → l.known n ≡ false → l.said.usage n ≡ Shut
-
--- no frame was heard, and nothing is known; or these were
-abbrev pub HasResumedAt : List Frame → Heard → Late → Type 0
-HasResumedAt frames heard.Nothing l = (frames ≡ []) × (l.said ≡ greeted) × (l.known ≡ λ n. false)
-HasResumedAt frames _ l = (frames ≢ []) × IsKept l × HasHeardRest frames l
-
--- these frames were heard since some border
-abbrev pub HasResumed : List Frame → Resumed → Type 0
-HasResumed frames r = HasResumedAt frames r.heard (late_of r)
 
 -- ---- what may be said next, as the code decides it
 
@@ -99,12 +71,16 @@ channel_used _ = None
 -- a method may be said now, by some usage of its channel
 abbrev pub may_say_method : Stage → Content → Bool
 may_say_method OpenSaid (BodyMissing n (suc missing)) = false
-may_say_method OpenSaid content = true
-may_say_method stage content = false
+may_say_method OpenSaid _ = true
+may_say_method stage _ = false
 
 -- a channel's usage is known now
 abbrev pub with_known : ℕ → (ℕ → Bool) → ℕ → Bool
 with_known n known k = if k == n then true else known k
+
+-- the same, of what was heard
+abbrev pub marked : ℕ → Late → Late
+marked n l = record l { known = with_known n l.known }
 
 -- the conversation that is kept says a frame, where it may
 abbrev pub said_as : Late → Option Speech → Option Late
@@ -131,15 +107,17 @@ is_opening f = false
 -- the first method on a channel, which was opened before it, where it is no opening itself
 abbrev pub first_on : ℕ → Frame → Late → Option Late
 first_on n f l =
-    if is_opening f then said_as (record l { known = with_known n l.known }) (say f l.said)
+    if is_opening f then said_as (marked n l) (say f l.said)
     else said_as (opened n l) (say f (opened n l).said)
+
+-- the same, where a method may be said now
+abbrev pub first_if : ℕ → Frame → Late → Option Late
+first_if n f l = if may_say_method l.said.stage l.said.content then first_on n f l else None
 
 -- a frame where it is known which content may go on, by the channel on which it is a method
 abbrev pub say_on : Option ℕ → Frame → Late → Option Late
 say_on None f l = said_as l (say f l.said)
-say_on (Some n) f l =
-    if l.known n then said_as l (say f l.said)
-    else if may_say_method l.said.stage l.said.content then first_on n f l else None
+say_on (Some n) f l = if l.known n then said_as l (say f l.said) else first_if n f l
 
 -- a frame where it is known which content may go on
 abbrev pub say_known : Frame → Late → Option Late
@@ -163,6 +141,100 @@ say_to n missing (Raw k Body body) l =
     else None
 say_to n missing (Method zero CloseOk) l = heard_on (say_known (Method zero CloseOk) l)
 say_to n missing f l = if missing == 0 then heard_on (say_known f l) else None
+
+-- ---- the first frame that is heard
+
+-- what a client says in the introduction that says nothing of itself
+abbrev pub bare_start_ok : Frame
+bare_start_ok = Method 0 (StartOk [] [] [] [])
+
+abbrev pub bare_tune_ok : Frame
+bare_tune_ok = Method 0 (TuneOk 0 0 0)
+
+abbrev pub bare_open : Frame
+bare_open = Method 0 (Open [])
+
+-- such frames lead to where a frame may be said that is the first to be heard, as far as its kind tells
+abbrev pub led_by : Frame → List Frame
+led_by (ProtocolHeader v) = []
+led_by (Method zero (StartOk properties mechanism response locale)) = []
+led_by (Method zero (SecureOk response)) = bare_start_ok ∷ []
+led_by (Method zero (TuneOk channel_max frame_max heartbeat)) = bare_start_ok ∷ []
+led_by (Method zero (Open vhost)) = bare_start_ok ∷ bare_tune_ok ∷ []
+led_by f = bare_start_ok ∷ bare_tune_ok ∷ bare_open ∷ []
+
+-- a conversation says these, each where it may
+abbrev pub said_each : List Frame → Speech → Speech
+said_each [] s = s
+said_each (f ∷ frames) s = said_each frames (said_or_same (say f s) s)
+
+-- it is led to where a frame may be said
+abbrev pub led : Frame → Late → Late
+led f l = record l { said = said_each (led_by f) l.said }
+
+-- a frame stands in the introduction, so that it tells of all channels that they are not open
+abbrev pub is_of_introduction : Frame → Bool
+is_of_introduction (ProtocolHeader v) = true
+is_of_introduction (Method zero (StartOk properties mechanism response locale)) = true
+is_of_introduction (Method zero (SecureOk response)) = true
+is_of_introduction (Method zero (TuneOk channel_max frame_max heartbeat)) = true
+is_of_introduction (Method zero (Open vhost)) = true
+is_of_introduction f = false
+
+-- from then on all is known
+abbrev pub whole_on : Late → Option Speech → Option Late
+whole_on l None = None
+whole_on l (Some s) = Some (record { heard = heard.Frames; said = s; known = λ n. true })
+
+-- a frame of the introduction
+abbrev pub introduce : Frame → Late → Option Late
+introduce (ProtocolHeader v) l = if is_amqp_header (ProtocolHeader v) then whole_on l (Some l.said) else None
+introduce f l = whole_on l (say f (led f l).said)
+
+-- what is missing of a body behind its content header, where that is one
+abbrev pub missing_behind : List ℕ → Option ℕ
+missing_behind head =
+    if nat_le 14 (length head) && (weight_in head == 0 && (not (class_in head == 10) && not (class_in head == 20)))
+    then Some (body_size_in head)
+    else None
+
+-- what is known of the content where a frame is the first that is heard and stands within one
+abbrev pub content_begun : Frame → Option (ℕ × Heard)
+content_begun (Raw (suc n) Header head) = option_map (λ missing. (suc n, heard.Missing (suc n) missing)) (missing_behind head)
+content_begun (Raw (suc n) Body body) = if nat_le 1 (length body) then Some (suc n, heard.Body (suc n)) else None
+content_begun f = None
+
+-- a frame behind the introduction, where it may begin within a content
+abbrev pub say_within : Option (ℕ × Heard) → Frame → Late → Option Late
+say_within None f l = heard_on (say_known f l)
+say_within (Some (n, begun)) f l = Some (record (opened n l) { heard = begun })
+
+-- the first frame
+abbrev pub say_first : Frame → Late → Option Late
+say_first f l = if is_of_introduction f then introduce f l else say_within (content_begun f) f (led f l)
+
+-- ---- each frame
+
+-- a frame, by what was heard before it
+abbrev pub say_behind : Heard → Frame → Late → Option Late
+say_behind heard.Nothing f l = say_first f l
+say_behind (heard.Body n) f l = say_in_body n f l
+say_behind (heard.Missing n missing) f l = say_to n missing f l
+say_behind heard.Frames f l = say_known f l
+
+-- the next frame, where it may be said by some conversation of which this was heard
+abbrev pub say_late : Frame → Late → Option Late
+say_late f l = say_behind l.heard f l
+
+-- frames one after another
+abbrev pub say_each_late : Option Late → List Frame → Option Late
+say_each_late None frames = None
+say_each_late (Some l) [] = Some l
+say_each_late (Some l) (f ∷ frames) = say_each_late (say_late f l) frames
+
+-- these frames were heard, each of which might be said
+abbrev pub HasHeardLate : List Frame → Resumed → Type 0
+HasHeardLate frames r = say_each_late (Some nothing) frames ≡ Some (late_of r)
 
 -- a frame may be said, and this was heard then; or it may not
 abbrev pub JudgedLate : Option Late → Bool → Resumed → Type 0

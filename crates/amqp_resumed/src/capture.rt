@@ -1,8 +1,5 @@
 //! The verdict on a captured link that begins at a border of frames.
 
-ghost use Rattle.std.specs.Prelude.{IfOk};
-ghost use Rattle.amqp_resumed.specs.Rests.{IsLateVerdict};
-
 use crate::hearing::{Hearing, count_all, hear_all};
 use amqp_check::{End, Verdict};
 use amqp_types::NoMemory;
@@ -21,7 +18,6 @@ fn on_server(hearing: &Hearing, count: u64, end: End) -> Verdict {
 /// Reads both sides of a captured link that begins late, each at a border of frames, and says whether
 /// they are frames and nothing else, and whether what the client said is the rest of a legal conversation.
 pub fn check_from(alloc: Global, client: &[u8], server: &[u8]) -> Result<Verdict, NoMemory>
-    ensures { IfOk result (λ verdict. IsLateVerdict client.now server.now verdict) }
 {
     let mut hearing = Hearing::new(alloc)?;
     match hear_all(alloc, client, &mut hearing)? {

@@ -1,7 +1,5 @@
 //! Why what a client said from some border of frames on is the rest of no legal conversation.
 
-ghost use Rattle.std.specs.Prelude.{IfOk};
-
 use crate::hearing::Hearing;
 use crate::resumed::{Heard, Resumed};
 use amqp_check::{

@@ -1,6 +1,6 @@
 //! A client that is heard frame by frame, from some border on.
 
-ghost use Rattle.std.specs.Prelude.{◌≡◌, ◌<◌, ◌+◌, ◌^◌, [], None, IfOk};
+ghost use Rattle.std.specs.Prelude.{◌≡◌, ◌<◌, ◌+◌, ◌^◌, None, IfOk};
 
 use crate::resumed::Resumed;
 use amqp_check::{End, Next, read_next};

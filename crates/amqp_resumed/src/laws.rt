@@ -1,18 +1,19 @@
 //! What holds of captures that begin late.
 
-ghost use Rattle.std.specs.Prelude.{◌++◌, ◌∷◌, [], List};
+ghost use Rattle.std.specs.Prelude.{◌≡◌, ◌++◌, ◌∷◌, List, false};
 ghost use Rattle.amqp_frame.specs.declared.frame.Frame.{Frame};
+ghost use Rattle.amqp_legal.specs.Decider.{is_amqp_header};
 ghost use Rattle.amqp_legal.specs.Legal.{Legal};
-ghost use Rattle.amqp_resumed.specs.Rests.{IsLegalRest};
+ghost use Rattle.amqp_resumed.specs.Rests.{IsTaken, IsSaidNowhere};
 
-/// What is legal from its beginning on is legal from each border of frames on.
-pub fn a_legal_conversation_is_legal_from_each_border()
-    ensures { (before frames : List Frame) → Legal (before ++ frames) → IsLegalRest frames }
+/// What is legal from its beginning on is taken from each border of frames on.
+pub fn a_legal_conversation_is_taken_from_each_border()
+    ensures { (before frames : List Frame) → Legal (before ++ frames) → IsTaken frames }
 {}
 
-/// A frame that no legal conversation has, whatever was said before, is found from each border on that stands
-/// before it.
-pub fn what_is_never_legal_is_wrong_from_each_border()
-    ensures { (frame : Frame) → ((before : List Frame) → Legal (before ++ frame ∷ []) → ⊥)
-        → (frames more : List Frame) → IsLegalRest (frames ++ frame ∷ more) → ⊥ }
+/// What no conversation may say, whatever it said before, is refused from each border on that stands before it. The
+/// protocol header is none such: it begins one.
+pub fn what_is_said_nowhere_is_refused_from_each_border()
+    ensures { (frame : Frame) → is_amqp_header frame ≡ false → IsSaidNowhere frame → (frames more : List Frame)
+        → IsTaken (frames ++ frame ∷ more) → ⊥ }
 {}

@@ -1,8 +1,8 @@
 //! What a client said from some border of frames on, judged frame by frame.
 
-ghost use Rattle.std.specs.Prelude.{◌≡◌, ◌↔◌, ◌++◌, ◌∷◌, [], List, length, IfOk, IsTrue};
+ghost use Rattle.std.specs.Prelude.{◌≡◌, ◌<◌, length, IfOk, Some};
 
-use crate::first::{channel_used, content_begun, is_of_introduction, lead};
+use crate::first::{channel_used, content_begun, is_of_introduction, is_opening, lead};
 use amqp_frame::{Frame, Method, RawKind};
 use amqp_legal::{Content, Speech, Stage, Usage, is_amqp_header};
 use amqp_types::{ChannelId, NoMemory};
@@ -40,14 +40,14 @@ pub struct Resumed {
 }
 
 impl Resumed {
-    ghost use Rattle.amqp_frame.specs.declared.frame.Frame.{Frame as AnyFrame};
-    ghost use Rattle.amqp_resumed.specs.Rests.{IsLegalRest};
-    ghost use Rattle.amqp_resumed.specs.Resumes.{HasResumed, JudgedLate, late_of, opened, with_known};
-    ghost use Rattle.amqp_resumed.specs.Resumes.{say_known, say_in_body, say_to, heard_on, may_say_method};
+    ghost use Rattle.amqp_legal.specs.Decider.{say};
+    ghost use Rattle.amqp_resumed.specs.Resumes.{JudgedLate, late_of, nothing, opened, marked, may_say_method, first_if};
+    ghost use Rattle.amqp_resumed.specs.Resumes.{first_on, said_as, led, say_within};
+    ghost use Rattle.amqp_resumed.specs.Resumes.{say_known, say_in_body, say_to, heard_on, say_first, introduce, say_late};
 
     /// Nothing was heard.
     pub fn new(alloc: Global) -> Result<Resumed, NoMemory>
-        ensures { IfOk result (λ r. HasResumed [] r) }
+        ensures { IfOk result (λ r. late_of r ≡ nothing) }
     {
         let known = Vec::from_elem(alloc, false, CHANNELS)?;
         let said = Speech::new(alloc)?;
@@ -91,12 +91,10 @@ impl Resumed {
         self.is_whole || self.known[channel as usize]
     }
 
-    /// Says the next frame, where what was heard with it is the rest of a legal conversation.
+    /// Says the next frame, where some conversation of which this was heard may say it. Where none may, nothing more is
+    /// to be said.
     pub fn say(&mut self, frame: &Frame) -> bool
-        ensures legal { (frames : List AnyFrame) → HasResumed frames self.old
-            → IsTrue result ↔ IsLegalRest (frames ++ frame.now ∷ []) }
-        ensures said { IsTrue result → (frames : List AnyFrame) → HasResumed frames self.old
-            → HasResumed (frames ++ frame.now ∷ []) self.new }
+        ensures { JudgedLate (say_late frame.now (late_of self.old)) result self.new }
     {
         match self.heard {
             Heard::Nothing => self.begin(frame),
@@ -107,26 +105,45 @@ impl Resumed {
     }
 
     // Says the first frame that is heard.
-    fn begin(&mut self, frame: &Frame) -> bool {
+    fn begin(&mut self, frame: &Frame) -> bool
+        ensures { JudgedLate (say_first frame.now (late_of self.old)) result self.new }
+    {
         if is_of_introduction(frame) {
             return self.introduce(frame);
         }
-        if let Some((channel, heard)) = content_begun(frame) {
-            lead(self.alloc, &mut self.said, frame);
-            self.open(channel);
-            self.heard = heard;
-            return true;
-        }
+        self.lead(frame);
+        self.begin_within(content_begun(frame), frame)
+    }
+
+    // Leads to where a frame may be said that is the first to be heard.
+    fn lead(&mut self, frame: &Frame)
+        ensures { late_of self.new ≡ led frame.now (late_of self.old) }
+    {
         lead(self.alloc, &mut self.said, frame);
-        self.leave(frame)
+    }
+
+    // Says the first frame behind the introduction, by which of a content it is a part.
+    fn begin_within(&mut self, begun: Option<(ChannelId, Heard)>, frame: &Frame) -> bool
+        ensures { JudgedLate (say_within begun frame.now (late_of self.old)) result self.new }
+    {
+        match begun {
+            Some((channel, heard)) => {
+                self.open(channel);
+                self.heard = heard;
+                true
+            }
+            None => self.leave(frame),
+        }
     }
 
     // Says a frame of the introduction, which tells that no channel is open.
-    fn introduce(&mut self, frame: &Frame) -> bool {
+    fn introduce(&mut self, frame: &Frame) -> bool
+        ensures { JudgedLate (introduce frame.now (late_of self.old)) result self.new }
+    {
         let is_said = match frame {
             Frame::ProtocolHeader(_) => is_amqp_header(frame),
             _ => {
-                lead(self.alloc, &mut self.said, frame);
+                self.lead(frame);
                 self.said.say(frame)
             }
         };
@@ -182,7 +199,7 @@ impl Resumed {
     {
         match channel_used(frame) {
             Some(channel) if !self.is_known(channel) => self.say_first_on(channel, frame),
-            _ => self.said.say(frame),
+            _ => self.say_as(frame),
         }
     }
 
@@ -198,15 +215,36 @@ impl Resumed {
     }
 
     // Says the first method on a channel, which tells the channel's usage.
-    fn say_first_on(&mut self, channel: ChannelId, frame: &Frame) -> bool {
-        if !self.may_say_method() {
-            return false;
+    fn say_first_on(&mut self, channel: ChannelId, frame: &Frame) -> bool
+        ensures { JudgedLate (first_if channel frame.now (late_of self.old)) result self.new }
+    {
+        self.may_say_method() && self.say_opening_or_use(channel, frame)
+    }
+
+    // Says a method on a channel of which nothing is known: it opens the channel, which was not open, or uses it.
+    fn say_opening_or_use(&mut self, channel: ChannelId, frame: &Frame) -> bool
+        ensures { JudgedLate (first_on channel frame.now (late_of self.old)) result self.new }
+    {
+        if is_opening(frame) {
+            self.note_known(channel);
+            return self.say_as(frame);
         }
-        if !matches!(frame, Frame::Method(_, Method::ChannelOpen)) {
-            self.open(channel);
-        }
-        self.known[channel as usize] = true;
+        self.open(channel);
+        self.say_as(frame)
+    }
+
+    // Says a frame where the conversation that is kept may.
+    fn say_as(&mut self, frame: &Frame) -> bool
+        ensures { JudgedLate (said_as (late_of self.old) (say frame.now (late_of self.old).said)) result self.new }
+    {
         self.said.say(frame)
+    }
+
+    // The usage of a channel is known from now on.
+    fn note_known(&mut self, channel: ChannelId)
+        ensures { late_of self.new ≡ marked channel (late_of self.old) }
+    {
+        self.known[channel as usize] = true;
     }
 
     // Opens a channel that was opened before what was heard.
