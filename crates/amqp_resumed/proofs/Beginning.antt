@@ -21,12 +21,12 @@ use Rattle.amqp_types.proofs.Small.{if-true, if-false, and-left, and-right, and-
 use Rattle.amqp_resumed.specs.declared.resumed.Heard.{Heard}
 use Rattle.amqp_resumed.specs.declared.resumed.Heard.TheVariants as heard
 use Rattle.amqp_resumed.specs.Rests.{IsTaken}
-use Rattle.amqp_resumed.specs.Resumes.{Late, nothing, FitsHeard, HasContent, with_known, opened, said_each, say_known, heard_on, bare_start_ok, bare_tune_ok, bare_led_by, led, whole_on, introduce, is_of_introduction, missing_behind, content_begun, say_within, say_first, say_behind, say_late, say_each_late}
+use Rattle.amqp_resumed.specs.Resumes.{Late, nothing, FitsHeard, HasContent, with_known, opened, said_each, say_known, heard_on, bare_start_ok, bare_tune_ok, bare_open, led_by, led, whole_on, introduce, is_of_introduction, missing_behind, content_begun, say_within, say_first, say_behind, say_late, say_each_late}
 use Rattle.amqp_resumed.proofs.Using.{own-usage, other-usage}
 use Rattle.amqp_resumed.proofs.Behind.{is_apart, in-content-block, open-stage}
-use Rattle.amqp_resumed.proofs.Reachable.{at_stage, Reachable, GoesOn, Heads, Carries, raw-headed, carried, begins, reached-more, reached-all}
+use Rattle.amqp_resumed.proofs.Reachable.{is_early, at_stage, Reachable, GoesOn, Heads, Carries, raw-open, headed, carried, begins, reached-more, reached-all}
 use Rattle.amqp_resumed.proofs.Advancing.{heard_of, UnknownShut}
-use Rattle.amqp_resumed.proofs.Taking.{TakesLate, IsWithin, late_with, apart-left, close-left, take-next, closed}
+use Rattle.amqp_resumed.proofs.Taking.{TakesLate, IsWithin, late_with, apart-left, close-left, take-next}
 
 -- ---- in the introduction
 
@@ -226,13 +226,13 @@ on-channel : (j : ℕ) (h : Heard) (t : Speech) → t.stage ≡ OpenSaid → Has
 on-channel j h t staged content used within = record {
   late = late_with h (one-known j) (one-open j);
   is = refl;
-  fits = record { stage = staged; content = λ going. content; usage = λ going n sure. use n sure (cases_eq (suc j) n) };
+  fits = record { stage = staged; content = λ going. content; usage = λ going n sure. used-so n sure (cases_eq (suc j) n) };
   shut = λ n unset. shut n unset (cases_eq (suc j) n);
   within = within;
 } where
-  use : (n : ℕ) → one-known j n ≡ true → (suc j ≡ n) ⊎ (suc j ≢ n) → t.usage n ≡ with_usage (suc j) InUse (λ n. Shut) n
-  use n sure (inl e) = subst (λ (i : ℕ). t.usage i ≡ with_usage (suc j) InUse (λ n. Shut) i) e (used ∙ sym (own-usage (suc j) InUse (λ n. Shut)))
-  use n sure (inr ne) = absurd (let both : true ≡ false = sym sure ∙ other-unknown j n ne in cc)
+  used-so : (n : ℕ) → one-known j n ≡ true → (suc j ≡ n) ⊎ (suc j ≢ n) → t.usage n ≡ with_usage (suc j) InUse (λ n. Shut) n
+  used-so n sure (inl e) = subst (λ (i : ℕ). t.usage i ≡ with_usage (suc j) InUse (λ n. Shut) i) e (used ∙ sym (own-usage (suc j) InUse (λ n. Shut)))
+  used-so n sure (inr ne) = absurd (let both : true ≡ false = sym sure ∙ other-unknown j n ne in cc)
 
   shut : (n : ℕ) → one-known j n ≡ false → (suc j ≡ n) ⊎ (suc j ≢ n) → with_usage (suc j) InUse (λ n. Shut) n ≡ Shut
   shut n unset (inl e) = absurd (let both : true ≡ false = sym (own-known j) ∙ ap (one-known j) e ∙ unset in cc)
@@ -342,9 +342,10 @@ legal-taken [] (x ∷ frames) legal =
     let both = (all-said x frames).0 legal in
     let led = some-of (say_all (Some greeted) frames) both.1 in
     let takes = whole greeted in
-    ap (λ (o : Option Late). is_some (say_each_late o frames)) (header-late x both.0) ∙ take-all frames takes.late greeted led.0 takes.shut takes.within takes.fits led.1
+    ap (λ (o : Option Late). is_some (say_each_late o frames)) (header-late x both.0 ∙ takes.is) ∙ take-all frames takes.late greeted led.0 takes.shut takes.within takes.fits led.1
 legal-taken (x ∷ before) frames legal =
     let both = (all-said x (before ++ frames)).0 legal in
     let led = some-of (say_all (Some greeted) (before ++ frames)) both.1 in
-    let front = front-said (say_all (Some greeted) before) frames led.0 (sym (say-append (Some greeted) before frames) ∙ led.1) in
-    take-rest frames front.0 led.0 (reached-all before greeted front.0 begins front.1) front.2
+    let parted : say_all (say_all (Some greeted) before) frames ≡ Some led.0 = sym (say-append (Some greeted) before frames) ∙ led.1 in
+    let front = front-said (say_all (Some greeted) before) frames led.0 parted in
+    take-rest frames front.0 led.0 (reached-all before greeted front.0 begins front.1) (sym (ap (λ o. say_all o frames) front.1) ∙ parted)

@@ -95,7 +95,7 @@ fits-open known s0 s stage none usage = record { stage = stage; content = λ goi
 going-open : (st : Stage) → st ≡ OpenSaid → st ≢ CloseOkSaid
 going-open st now-open over = let both : OpenSaid ≡ CloseOkSaid = sym now-open ∙ over in absurd cc
 
-apart-left : (g : Frame) (h : Heard) (known : ℕ → Bool) (s0 s t : Speech) → is_apart g ≡ false → UnknownShut known s0 → s0.stage ≡ OpenSaid → s0.content ≡ NoContent
+pub apart-left : (g : Frame) (h : Heard) (known : ℕ → Bool) (s0 s t : Speech) → is_apart g ≡ false → UnknownShut known s0 → s0.stage ≡ OpenSaid → s0.content ≡ NoContent
     → FitsHeard (late_with h known s0) s → say g s ≡ Some t → TakesLate (heard_on (say_known g (late_with h known s0))) t
 apart-left g h known s0 s t unlike shut now-open none fits said =
     let staged : s.stage ≡ OpenSaid = fits.stage ∙ now-open in
@@ -114,7 +114,7 @@ closed OpenSaid s t h = let same : record s { stage = CloseOkSaid } ≡ t = cc i
 closed CloseSaid s t h = let same : record s { stage = CloseOkSaid } ≡ t = cc in sym (ap (λ (x : Speech). x.stage) same)
 closed CloseOkSaid s t h = absurd cc
 
-close-left : (h : Heard) (known : ℕ → Bool) (s0 s t : Speech) → UnknownShut known s0 → s0.stage ≡ OpenSaid → say (f.Method 0 m.CloseOk) s ≡ Some t
+pub close-left : (h : Heard) (known : ℕ → Bool) (s0 s t : Speech) → UnknownShut known s0 → s0.stage ≡ OpenSaid → say (f.Method 0 m.CloseOk) s ≡ Some t
     → TakesLate (heard_on (say_known (f.Method 0 m.CloseOk) (late_with h known s0))) t
 close-left h known s0 s t shut now-open said =
     let over : t.stage ≡ CloseOkSaid = closed s.stage s t said in
