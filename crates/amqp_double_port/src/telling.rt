@@ -18,7 +18,12 @@ fn ending_name(ended: Ended) -> &'static str {
 }
 
 /// The line of a client: its number, how its service ended, and behind how many frames.
-pub fn line_of(alloc: Global, number: u64, ended: Ended, client: &[u8]) -> Result<String, NoMemory> {
+pub fn line_of(
+    alloc: Global,
+    number: u64,
+    ended: Ended,
+    client: &[u8],
+) -> Result<String, NoMemory> {
     let name = ending_name(ended);
     Ok(match check(alloc, client, &[])? {
         Verdict::Legal(frames, _) => {
@@ -27,9 +32,13 @@ pub fn line_of(alloc: Global, number: u64, ended: Ended, client: &[u8]) -> Resul
         Verdict::CutClient(place) => {
             format!(in alloc; "client {number} {name} within the frame at byte {place}")?
         }
-        Verdict::Illegal(frame) => format!(in alloc; "client {number} {name} at its frame {frame}")?,
+        Verdict::Illegal(frame) => format!(in alloc;
+            "client {number} {name} at its frame {frame}"
+        )?,
         Verdict::BadClient(place) => format!(in alloc; "client {number} {name} at byte {place}")?,
-        Verdict::BadServer(_) | Verdict::CutServer(_) => format!(in alloc; "client {number} {name}")?,
+        Verdict::BadServer(_) | Verdict::CutServer(_) => format!(in alloc;
+            "client {number} {name}"
+        )?,
     })
 }
 

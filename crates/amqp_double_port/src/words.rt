@@ -91,7 +91,11 @@ fn help<R: Print>(rt: &R) -> u8 {
 fn print<R: Print>(rt: &R, line: String) -> Result<(), Stop> {
     let printed = rt.println(&line).is_ok();
     drop(line);
-    if printed { Ok(()) } else { Err(Stop::SinkFailed) }
+    if printed {
+        Ok(())
+    } else {
+        Err(Stop::SinkFailed)
+    }
 }
 
 // Says how the service of a client ended, and why it was refused, where it was.

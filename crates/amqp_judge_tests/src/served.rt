@@ -72,9 +72,11 @@ fn is_said(alloc: Global, row: &Row, double: &mut Double) -> Result<bool, NoMemo
     let ended = serve(alloc, double, &mut reader, &mut writer);
     let line = line_of(alloc, 1, ended, double.client())?;
     let told = told(alloc, ended, double.client())?;
-    Ok(writer.as_slice().ends_with(&answered)
-        && line.as_str() == row.line
-        && told.as_str() == row.told)
+    Ok(
+        writer.as_slice().ends_with(&answered)
+            && line.as_str() == row.line
+            && told.as_str() == row.told,
+    )
 }
 
 // The line of the first row of which something else is said.

@@ -90,7 +90,9 @@ fn put_late(out: &mut String, alloc: Global, text: &[u8], client: &[u8]) -> Resu
         return Ok(());
     }
     let Some(finding) = first_wrong(alloc, client)? else {
-        out.push_str("\nif it began before, its whole frames are the rest of a legal conversation")?;
+        out.push_str(
+            "\nif it began before, its whole frames are the rest of a legal conversation",
+        )?;
         return Ok(());
     };
     let place = finding.place;

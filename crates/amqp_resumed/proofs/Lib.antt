@@ -16,3 +16,5 @@ pub mod Taking
 pub mod Fresh
 -- The first frame that is heard, and all that follow.
 pub mod Beginning
+-- One frame more is heard.
+pub mod Hearing

@@ -1,3 +1,4 @@
--- The rest of a legal conversation, the verdict on a capture that begins late, and what was heard of such a one.
+-- What is taken of a capture that begins late, and how it is judged frame by frame.
 pub mod Rests
 pub mod Resumes
+pub mod HeardRests
