@@ -1,7 +1,7 @@
 -- What the words behind `double` ask for: a port, and how many clients are served, where that is said.
 use Rattle.std.specs.Prelude.{◌≡◌, ◌<◌, ◌^◌, ℕ, List, [], ◌∷◌, Option, Some, None}
 use Rattle.std.specs.Str.Parse.{IsNumeral, digits_value}
-use Rattle.amqp_double_port.specs.declared.asked.Asked.{Asked}
+use Rattle.amqp_double_port.specs.declared.listening.Asked.{Asked}
 
 -- a word is decimal digits of a number below this limit
 abbrev pub IsBelow : ℕ → List ℕ → Type 0

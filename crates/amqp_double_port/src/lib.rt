@@ -2,10 +2,10 @@
 //! a server double of its own, and of each is said how that ended, and which frame it might not say.
 #![tactic(auto)]
 
-mod asked;
+mod listening;
 mod telling;
 mod words;
 
-pub use asked::{Asked, asked_of, number_of};
+pub use listening::{Asked, asked_of, number_of};
 pub use telling::{line_of, told};
 pub use words::{HELP_TEXT, asked, run};

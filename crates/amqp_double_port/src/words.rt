@@ -1,6 +1,6 @@
 //! The word `double` of a program: it listens at a port, serves whoever comes, and prints a line for each.
 
-use crate::asked::{Asked, asked_of};
+use crate::listening::{Asked, asked_of};
 use crate::telling::{line_of, told};
 use amqp_double_socket::{Ended, Served, serve_link};
 use amqp_settings::Configuration;

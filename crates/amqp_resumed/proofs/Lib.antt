@@ -17,4 +17,4 @@ pub mod Fresh
 -- The first frame that is heard, and all that follow.
 pub mod Beginning
 -- One frame more is heard.
-pub mod Hearing
+pub mod HeardMore

@@ -1,4 +1,4 @@
-use Rattle.amqp_resumed.proofs.Hearing.{nothing-heard}
+use Rattle.amqp_resumed.proofs.HeardMore.{nothing-heard}
 use Rattle.amqp_resumed.proofs.hearing.Hearing.new.Goals as goal
 
 pub returns-clause-heard : goal.returns-clause-heard
