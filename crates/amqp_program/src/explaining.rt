@@ -173,10 +173,11 @@ fn explain_sides(alloc: Global, text: &[u8], sides: &Captured) -> Result<Option<
     Ok(if out.is_empty() { None } else { Some(out) })
 }
 
-/// What is to be said of the capture that a text is. Where the verdict on it is another than that it is
-/// legal: in three lines where, what stands there or was said before it, and what may stand there; then what else it
-/// looks like, what it is if it began before the capture, whether the client's whole frames are legal, and how the
-/// server closed last, where it did so with an error. Where one of its lines is refused: which and why. Else nothing, but for that close.
+/// What is to be said of the capture that a text is. Where the verdict on it is another than that it is legal: in
+/// three lines where, what stands there or was said before it, and what may stand there; then what else it looks
+/// like, what it is if it began before the capture, whether the client's whole frames are legal, and how the server
+/// closed last, where it did so with an error. Where one of its lines is refused: which and why. Else nothing, but
+/// for that close.
 pub fn explain(alloc: Global, text: &[u8]) -> Result<Option<String>, NoMemory> {
     match read_capture(alloc, text)? {
         Capture::Refused(number) => why_refused(alloc, text, number),

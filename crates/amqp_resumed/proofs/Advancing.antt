@@ -15,7 +15,7 @@ use Rattle.amqp_legal.specs.declared.progress.Usage.{Usage}
 use Rattle.amqp_legal.specs.declared.progress.Usage.TheVariants.{Shut, InUse, Left}
 use Rattle.amqp_types.proofs.Small.{if-true, if-false}
 use Rattle.amqp_resumed.specs.declared.resumed.Heard.TheVariants as heard
-use Rattle.amqp_resumed.specs.Resumes.{Late, FitsHeard, channel_used, may_say_method, with_known, said_as, said_or_same, opened, is_opening, first_on, first_if, say_on, say_known}
+use Rattle.amqp_resumed.specs.Resumes.{Late, FitsHeard, channel_used, may_say_method, with_known, said_as, said_or_same, opened_before, opens_channel, first_method, first_if, say_on, say_known}
 use Rattle.amqp_resumed.proofs.Using.{with_usages, other-said, own-usage, other-usage, usage_after, content_after, used_as, method-said}
 use Rattle.amqp_resumed.proofs.Resuming.{alive}
 
@@ -91,14 +91,14 @@ on-said g n s t used h = by (may_say_method s.stage s.content) refl where
 
 -- a method leaves its channel in one usage, whatever that was before
 after-one : (g : Frame) (u v x y : Usage) → usage_after g u ≡ Some x → usage_after g v ≡ Some y → x ≡ y
-after-one (f.Method n m.ChannelOpen) u v x y h k = opened u v h k where
-  opened : (u v : Usage) → usage_after (f.Method n m.ChannelOpen) u ≡ Some x → usage_after (f.Method n m.ChannelOpen) v ≡ Some y → x ≡ y
-  opened Shut Shut a b = cc
-  opened Shut Left a b = cc
-  opened Left Shut a b = cc
-  opened Left Left a b = cc
-  opened InUse v a b = absurd cc
-  opened u InUse a b = absurd cc
+after-one (f.Method n m.ChannelOpen) u v x y h k = opened_before u v h k where
+  opened_before : (u v : Usage) → usage_after (f.Method n m.ChannelOpen) u ≡ Some x → usage_after (f.Method n m.ChannelOpen) v ≡ Some y → x ≡ y
+  opened_before Shut Shut a b = cc
+  opened_before Shut Left a b = cc
+  opened_before Left Shut a b = cc
+  opened_before Left Left a b = cc
+  opened_before InUse v a b = absurd cc
+  opened_before u InUse a b = absurd cc
 after-one (f.Method n (m.ChannelClose code text class method)) InUse InUse x y h k = cc
 after-one (f.Method n (m.ChannelClose code text class method)) u v x y h k = absurd cc
 after-one (f.Method n m.ChannelCloseOk) u v x y h k = closed u v h k where
@@ -227,14 +227,14 @@ take-known g n known s0 s t used sure shut fits said = by (say g s0) refl where
 
 -- ---- the first method on a channel
 
-after-shut : (g : Frame) → is_opening g ≡ true → usage_after g Shut ≡ Some InUse
+after-shut : (g : Frame) → opens_channel g ≡ true → usage_after g Shut ≡ Some InUse
 after-shut (f.Method n m.ChannelOpen) h = refl
 after-shut (f.Method n _) h = absurd cc
 after-shut (f.Raw n kind payload) h = absurd cc
 after-shut (f.ProtocolHeader v) h = absurd cc
 after-shut f.Heartbeat h = absurd cc
 
-after-in-use : (g : Frame) (u x : Usage) → is_opening g ≡ false → usage_after g u ≡ Some x → (y : Usage) × (usage_after g InUse ≡ Some y)
+after-in-use : (g : Frame) (u x : Usage) → opens_channel g ≡ false → usage_after g u ≡ Some x → (y : Usage) × (usage_after g InUse ≡ Some y)
 after-in-use (f.Method n m.ChannelOpen) u x h k = absurd cc
 after-in-use (f.Method n (m.ChannelClose code text class method)) u x h k = (Left, refl)
 after-in-use (f.Method n m.ChannelCloseOk) u x h k = (Shut, refl)
@@ -295,7 +295,7 @@ module _ (g : Frame) (k : ℕ) (known : ℕ → Bool) (s0 s t : Speech) (used : 
 
   -- what is kept of a method by which the channel, which was not open, is in this usage
   first-taken : (t0 : Speech) (pre : Usage) → usage_after g pre ≡ Some (t0.usage (suc k)) → t0.stage ≡ s0.stage → t0.content ≡ content_after g
-      → ((j : ℕ) → suc k ≢ j → t0.usage j ≡ s0.usage j) → first_on (suc k) g l0 ≡ Some (heard_of known' t0) → Takes (first_on (suc k) g l0) t
+      → ((j : ℕ) → suc k ≢ j → t0.usage j ≡ s0.usage j) → first_method (suc k) g l0 ≡ Some (heard_of known' t0) → Takes (first_method (suc k) g l0) t
   first-taken t0 pre after stage content others is = record {
     known = known';
     said = t0;
@@ -317,16 +317,16 @@ module _ (g : Frame) (k : ℕ) (known : ℕ → Bool) (s0 s t : Speech) (used : 
     by j none (inl e) = true-false (known' j) (subst (λ (i : ℕ). known' i ≡ true) e (own-known (suc k) known)) none
     by j none (inr ne) = others j ne ∙ shut j (sym (now-known (suc k) known j ne) ∙ none)
 
-  opens : is_opening g ≡ true → Takes (first_on (suc k) g l0) t
+  opens : opens_channel g ≡ true → Takes (first_method (suc k) g l0) t
   opens is =
       let t0 : Speech = used_as (suc k) (content_after g) s0 InUse in
       let after : usage_after g Shut ≡ Some InUse = after-shut g is in
       let says : say g s0 ≡ Some t0 = said-on g (suc k) s0 InUse used may (ap (usage_after g) (shut (suc k) unlike) ∙ after) in
       let l1 : Late = record l0 { known = known' } in
       first-taken t0 Shut (after ∙ ap (λ (u : Usage). Some u) (sym (own-usage (suc k) InUse s0.usage))) refl refl (λ j ne. other-usage (suc k) j InUse s0.usage ne)
-      (if-true (is_opening g) (said_as l1 (say g l0.said)) (said_as (opened (suc k) l0) (say g (opened (suc k) l0).said)) is ∙ ap (said_as l1) says)
+      (if-true (opens_channel g) (said_as l1 (say g l0.said)) (said_as (opened_before (suc k) l0) (say g (opened_before (suc k) l0).said)) is ∙ ap (said_as l1) says)
 
-  goes-on : is_opening g ≡ false → Takes (first_on (suc k) g l0) t
+  goes-on : opens_channel g ≡ false → Takes (first_method (suc k) g l0) t
   goes-on is =
       let on = on-said g (suc k) s t used said in
       let there = after-in-use g (s.usage (suc k)) on.usage is on.after in
@@ -337,16 +337,16 @@ module _ (g : Frame) (k : ℕ) (known : ℕ → Bool) (s0 s t : Speech) (used : 
       let begun : say opening s0 ≡ Some s1 = said-on opening (suc k) s0 InUse refl may (ap (usage_after opening) (shut (suc k) unlike)) in
       let own : s1.usage (suc k) ≡ InUse = own-usage (suc k) InUse s0.usage in
       let says : say g s1 ≡ Some t0 = said-on g (suc k) s1 y used (may-none s0.stage s0.content may) (ap (usage_after g) own ∙ there.1) in
-      let kept : (opened (suc k) l0).said ≡ s1 = ap (λ (o : Option Speech). said_or_same o s0) begun in
+      let kept : (opened_before (suc k) l0).said ≡ s1 = ap (λ (o : Option Speech). said_or_same o s0) begun in
       let l1 : Late = record l0 { known = known' } in
       first-taken t0 InUse (there.1 ∙ ap (λ (u : Usage). Some u) (sym (own-usage (suc k) y s1.usage))) refl refl
       (λ j ne. other-usage (suc k) j y s1.usage ne ∙ other-usage (suc k) j InUse s0.usage ne)
-      (if-false (is_opening g) (said_as l1 (say g l0.said)) (said_as (opened (suc k) l0) (say g (opened (suc k) l0).said)) is
-      ∙ ap (λ (x : Speech). said_as (opened (suc k) l0) (say g x)) kept ∙ ap (said_as (opened (suc k) l0)) says)
+      (if-false (opens_channel g) (said_as l1 (say g l0.said)) (said_as (opened_before (suc k) l0) (say g (opened_before (suc k) l0).said)) is
+      ∙ ap (λ (x : Speech). said_as (opened_before (suc k) l0) (say g x)) kept ∙ ap (said_as (opened_before (suc k) l0)) says)
 
-  take-first : Takes (first_on (suc k) g l0) t
-  take-first = by (is_opening g) refl where
-    by : (b : Bool) → is_opening g ≡ b → Takes (first_on (suc k) g l0) t
+  take-first : Takes (first_method (suc k) g l0) t
+  take-first = by (opens_channel g) refl where
+    by : (b : Bool) → opens_channel g ≡ b → Takes (first_method (suc k) g l0) t
     by true is = opens is
     by false is = goes-on is
 
@@ -359,10 +359,10 @@ take-used g n known s0 s t used shut fits said = by (known n) refl where
   may-by false is unlike = absurd (refused-use g n known s0 s t used is fits said)
   may-by true is unlike =
       let k = used-above g n used in
-      let first : Takes (first_on (suc k.0) g (heard_of known s0)) t =
+      let first : Takes (first_method (suc k.0) g (heard_of known s0)) t =
       take-first g k.0 known s0 s t (used ∙ ap (λ (i : ℕ). Some i) k.1) (subst (λ (i : ℕ). known i ≡ false) k.1 unlike) is shut fits said in
-      subst (λ (o : Option Late). Takes o t) (sym (if-true (may_say_method s0.stage s0.content) (first_on n g (heard_of known s0)) None is))
-      (subst (λ (i : ℕ). Takes (first_on i g (heard_of known s0)) t) (sym k.1) first)
+      subst (λ (o : Option Late). Takes o t) (sym (if-true (may_say_method s0.stage s0.content) (first_method n g (heard_of known s0)) None is))
+      (subst (λ (i : ℕ). Takes (first_method i g (heard_of known s0)) t) (sym k.1) first)
 
   by : (b : Bool) → known n ≡ b → Takes (say_on (Some n) g (heard_of known s0)) t
   by true sure =

@@ -20,8 +20,8 @@ use Rattle.amqp_legal.proofs.Sayable.{say-append, front-said}
 use Rattle.amqp_types.proofs.Small.{if-true, if-false, and-left, and-right, and-true}
 use Rattle.amqp_resumed.specs.declared.resumed.Heard.{Heard}
 use Rattle.amqp_resumed.specs.declared.resumed.Heard.TheVariants as heard
-use Rattle.amqp_resumed.specs.Rests.{IsTaken}
-use Rattle.amqp_resumed.specs.Resumes.{Late, nothing, FitsHeard, HasContent, with_known, opened, said_each, say_known, heard_on, bare_start_ok, bare_tune_ok, bare_open, led_by, led, whole_on, introduce, is_of_introduction, missing_behind, content_begun, say_within, say_first, say_behind, say_late, say_each_late}
+use Rattle.amqp_resumed.specs.Rests.{IsTakenLate}
+use Rattle.amqp_resumed.specs.Resumes.{Late, heard_nothing, FitsHeard, HasContent, with_known, opened_before, said_each, say_known, past_content, bare_start_ok, bare_tune_ok, bare_open, led_by, led, whole_on, introduce, is_of_introduction, missing_behind, content_begun, say_within, say_first, say_behind, say_late, say_each_late}
 use Rattle.amqp_resumed.proofs.Using.{own-usage, other-usage}
 use Rattle.amqp_resumed.proofs.Behind.{is_apart, in-content-block, open-stage}
 use Rattle.amqp_resumed.proofs.Reachable.{is_early, at_stage, Reachable, GoesOn, Heads, Carries, raw-open, headed, carried, begins, reached-more, reached-all}
@@ -31,7 +31,7 @@ use Rattle.amqp_resumed.proofs.Taking.{TakesLate, IsWithin, late_with, apart-lef
 -- ---- in the introduction
 
 -- a conversation of which all is known fits itself
-whole : (s : Speech) → TakesLate (whole_on nothing (Some s)) s
+whole : (s : Speech) → TakesLate (whole_on heard_nothing (Some s)) s
 whole s = record {
   late = heard_of (λ n. true) s;
   is = refl;
@@ -110,15 +110,15 @@ module _ (g : Frame) (s t : Speech) (r : Reachable s) (introduced : is_of_introd
   late-stage {A} st is late = absurd (let both : true ≡ false = sym early ∙ ap is_early is ∙ late in cc)
 
   -- it leads from this stage to that
-  to-stage : (st : Stage) → s.stage ≡ st → (x : Speech) → say g (at_stage st) ≡ Some x → say_first g nothing ≡ whole_on nothing (Some x) → TakesLate (say_first g nothing) t
+  to-stage : (st : Stage) → s.stage ≡ st → (x : Speech) → say g (at_stage st) ≡ Some x → say_first g heard_nothing ≡ whole_on heard_nothing (Some x) → TakesLate (say_first g heard_nothing) t
   to-stage st is x says next =
       let both : Some x ≡ Some t = sym says ∙ as-at st is in
       let equal : x ≡ t = cc in
-      subst (λ (o : Option Late). TakesLate o t) (sym next) (subst (λ (y : Speech). TakesLate (whole_on nothing (Some x)) y) equal (whole x))
+      subst (λ (o : Option Late). TakesLate o t) (sym next) (subst (λ (y : Speech). TakesLate (whole_on heard_nothing (Some x)) y) equal (whole x))
 
-take-introduced : (g : Frame) (s t : Speech) → Reachable s → is_of_introduction g ≡ true → say g s ≡ Some t → TakesLate (say_first g nothing) t
+take-introduced : (g : Frame) (s t : Speech) → Reachable s → is_of_introduction g ≡ true → say g s ≡ Some t → TakesLate (say_first g heard_nothing) t
 take-introduced (f.ProtocolHeader v) s t r i said = by s.stage refl where
-  by : (st : Stage) → s.stage ≡ st → TakesLate (say_first (f.ProtocolHeader v) nothing) t
+  by : (st : Stage) → s.stage ≡ st → TakesLate (say_first (f.ProtocolHeader v) heard_nothing) t
   by HeaderSaid is = never (f.ProtocolHeader v) s t r i said HeaderSaid is refl
   by StartOkSaid is = never (f.ProtocolHeader v) s t r i said StartOkSaid is refl
   by TuneOkSaid is = never (f.ProtocolHeader v) s t r i said TuneOkSaid is refl
@@ -126,7 +126,7 @@ take-introduced (f.ProtocolHeader v) s t r i said = by s.stage refl where
   by CloseSaid is = late-stage (f.ProtocolHeader v) s t r i said CloseSaid is refl
   by CloseOkSaid is = late-stage (f.ProtocolHeader v) s t r i said CloseOkSaid is refl
 take-introduced (f.Method zero (m.StartOk a b c d)) s t r i said = by s.stage refl where
-  by : (st : Stage) → s.stage ≡ st → TakesLate (say_first (f.Method 0 (m.StartOk a b c d)) nothing) t
+  by : (st : Stage) → s.stage ≡ st → TakesLate (say_first (f.Method 0 (m.StartOk a b c d)) heard_nothing) t
   by HeaderSaid is = to-stage (f.Method 0 (m.StartOk a b c d)) s t r i said HeaderSaid is (at_stage StartOkSaid) refl refl
   by StartOkSaid is = never (f.Method 0 (m.StartOk a b c d)) s t r i said StartOkSaid is refl
   by TuneOkSaid is = never (f.Method 0 (m.StartOk a b c d)) s t r i said TuneOkSaid is refl
@@ -134,7 +134,7 @@ take-introduced (f.Method zero (m.StartOk a b c d)) s t r i said = by s.stage re
   by CloseSaid is = late-stage (f.Method 0 (m.StartOk a b c d)) s t r i said CloseSaid is refl
   by CloseOkSaid is = late-stage (f.Method 0 (m.StartOk a b c d)) s t r i said CloseOkSaid is refl
 take-introduced (f.Method zero (m.SecureOk response)) s t r i said = by s.stage refl where
-  by : (st : Stage) → s.stage ≡ st → TakesLate (say_first (f.Method 0 (m.SecureOk response)) nothing) t
+  by : (st : Stage) → s.stage ≡ st → TakesLate (say_first (f.Method 0 (m.SecureOk response)) heard_nothing) t
   by HeaderSaid is = never (f.Method 0 (m.SecureOk response)) s t r i said HeaderSaid is refl
   by StartOkSaid is = to-stage (f.Method 0 (m.SecureOk response)) s t r i said StartOkSaid is (at_stage StartOkSaid) refl refl
   by TuneOkSaid is = never (f.Method 0 (m.SecureOk response)) s t r i said TuneOkSaid is refl
@@ -142,7 +142,7 @@ take-introduced (f.Method zero (m.SecureOk response)) s t r i said = by s.stage 
   by CloseSaid is = late-stage (f.Method 0 (m.SecureOk response)) s t r i said CloseSaid is refl
   by CloseOkSaid is = late-stage (f.Method 0 (m.SecureOk response)) s t r i said CloseOkSaid is refl
 take-introduced (f.Method zero (m.TuneOk a b c)) s t r i said = by s.stage refl where
-  by : (st : Stage) → s.stage ≡ st → TakesLate (say_first (f.Method 0 (m.TuneOk a b c)) nothing) t
+  by : (st : Stage) → s.stage ≡ st → TakesLate (say_first (f.Method 0 (m.TuneOk a b c)) heard_nothing) t
   by HeaderSaid is = never (f.Method 0 (m.TuneOk a b c)) s t r i said HeaderSaid is refl
   by StartOkSaid is = to-stage (f.Method 0 (m.TuneOk a b c)) s t r i said StartOkSaid is (at_stage TuneOkSaid) refl refl
   by TuneOkSaid is = never (f.Method 0 (m.TuneOk a b c)) s t r i said TuneOkSaid is refl
@@ -150,7 +150,7 @@ take-introduced (f.Method zero (m.TuneOk a b c)) s t r i said = by s.stage refl 
   by CloseSaid is = late-stage (f.Method 0 (m.TuneOk a b c)) s t r i said CloseSaid is refl
   by CloseOkSaid is = late-stage (f.Method 0 (m.TuneOk a b c)) s t r i said CloseOkSaid is refl
 take-introduced (f.Method zero (m.Open vhost)) s t r i said = by s.stage refl where
-  by : (st : Stage) → s.stage ≡ st → TakesLate (say_first (f.Method 0 (m.Open vhost)) nothing) t
+  by : (st : Stage) → s.stage ≡ st → TakesLate (say_first (f.Method 0 (m.Open vhost)) heard_nothing) t
   by HeaderSaid is = never (f.Method 0 (m.Open vhost)) s t r i said HeaderSaid is refl
   by StartOkSaid is = never (f.Method 0 (m.Open vhost)) s t r i said StartOkSaid is refl
   by TuneOkSaid is = to-stage (f.Method 0 (m.Open vhost)) s t r i said TuneOkSaid is (at_stage OpenSaid) refl refl
@@ -188,20 +188,17 @@ no-content (f.Method k method) a = refl
 no-content (f.ProtocolHeader v) a = refl
 no-content f.Heartbeat a = refl
 
-abbrev unheard : Late
-unheard = late_with heard.Nothing (λ n. false) (at_stage OpenSaid)
+led-open : (g : Frame) → is_of_introduction g ≡ false → led g heard_nothing ≡ late_with heard.Nothing (λ n. false) (at_stage OpenSaid)
+led-open g i = ap (λ frames. record heard_nothing { said = said_each frames greeted }) (led-far g i)
 
-led-open : (g : Frame) → is_of_introduction g ≡ false → led g nothing ≡ late_with heard.Nothing (λ n. false) (at_stage OpenSaid)
-led-open g i = ap (λ frames. record nothing { said = said_each frames greeted }) (led-far g i)
-
-take-far : (g : Frame) (s t : Speech) → is_apart g ≡ false → is_of_introduction g ≡ false → say g s ≡ Some t → TakesLate (say_first g nothing) t
+take-far : (g : Frame) (s t : Speech) → is_apart g ≡ false → is_of_introduction g ≡ false → say g s ≡ Some t → TakesLate (say_first g heard_nothing) t
 take-far g s t a i said =
     let staged = only-open s.stage g s t a i said in
     let fits : FitsHeard (late_with heard.Nothing (λ n. false) (at_stage OpenSaid)) s = record { stage = staged; content = λ going. tt; usage = λ going n sure. absurd cc } in
     let takes = apart-left g heard.Nothing (λ n. false) (at_stage OpenSaid) s t a (λ n unset. refl) refl refl fits said in
-    let is : say_first g nothing ≡ heard_on (say_known g (late_with heard.Nothing (λ n. false) (at_stage OpenSaid))) =
-    if-false (is_of_introduction g) (introduce g nothing) (say_within (content_begun g) g (led g nothing)) i ∙ ap (λ o. say_within o g (led g nothing)) (no-content g a)
-    ∙ ap (λ l. heard_on (say_known g l)) (led-open g i) in
+    let is : say_first g heard_nothing ≡ past_content (say_known g (late_with heard.Nothing (λ n. false) (at_stage OpenSaid))) =
+    if-false (is_of_introduction g) (introduce g heard_nothing) (say_within (content_begun g) g (led g heard_nothing)) i ∙ ap (λ o. say_within o g (led g heard_nothing)) (no-content g a)
+    ∙ ap (λ l. past_content (say_known g l)) (led-open g i) in
     subst (λ (o : Option Late). TakesLate o t) (sym is) takes
 
 -- ---- within a content
@@ -238,7 +235,7 @@ on-channel j h t staged content used within = record {
   shut n unset (inl e) = absurd (let both : true ≡ false = sym (own-known j) ∙ ap (one-known j) e ∙ unset in cc)
   shut n unset (inr ne) = other-usage (suc j) n InUse (λ n. Shut) ne
 
-take-header : (k : ℕ) (head : List ℕ) (s t : Speech) → Reachable s → say (f.Raw k raw.Header head) s ≡ Some t → TakesLate (say_first (f.Raw k raw.Header head) nothing) t
+take-header : (k : ℕ) (head : List ℕ) (s t : Speech) → Reachable s → say (f.Raw k raw.Header head) s ≡ Some t → TakesLate (say_first (f.Raw k raw.Header head) heard_nothing) t
 take-header zero head s t r said =
     let at = headed 0 head s t said in
     let on = (r.method 0 at.class at.before).0 in
@@ -259,13 +256,13 @@ take-header (suc j) head s t r said =
     let missing : missing_behind head ≡ Some (body_size_in head) =
     if-true (nat_le 14 (length head) && (weight_in head == 0 && (not (class_in head == 10) && not (class_in head == 20)))) (Some (body_size_in head)) None test in
     let g = f.Raw (suc j) raw.Header head in
-    let is : say_first g nothing ≡ Some (late_with (heard.Missing (suc j) (body_size_in head)) (one-known j) (one-open j)) =
-    ap (λ o. say_within (option_map (λ missing. (suc j, heard.Missing (suc j) missing)) o) (f.Raw (suc j) raw.Header head) (led (f.Raw (suc j) raw.Header head) nothing)) missing in
+    let is : say_first g heard_nothing ≡ Some (late_with (heard.Missing (suc j) (body_size_in head)) (one-known j) (one-open j)) =
+    ap (λ o. say_within (option_map (λ missing. (suc j, heard.Missing (suc j) missing)) o) (f.Raw (suc j) raw.Header head) (led (f.Raw (suc j) raw.Header head) heard_nothing)) missing in
     subst (λ (o : Option Late). TakesLate o t) (sym is)
     (on-channel j (heard.Missing (suc j) (body_size_in head)) t (ap (λ (x : Speech). x.stage) at.is ∙ raw-open (suc j) raw.Header head s t said) (ap (λ (x : Speech). x.content) at.is)
     (ap (λ (x : Speech). x.usage (suc j)) at.is ∙ on.0.used) (refl, refl))
 
-take-body : (k : ℕ) (body : List ℕ) (s t : Speech) → Reachable s → say (f.Raw k raw.Body body) s ≡ Some t → TakesLate (say_first (f.Raw k raw.Body body) nothing) t
+take-body : (k : ℕ) (body : List ℕ) (s t : Speech) → Reachable s → say (f.Raw k raw.Body body) s ≡ Some t → TakesLate (say_first (f.Raw k raw.Body body) heard_nothing) t
 take-body zero body s t r said =
     let at = carried 0 body s t said in
     let on = r.body 0 at.missing at.before in
@@ -274,13 +271,13 @@ take-body (suc j) body s t r said =
     let at = carried (suc j) body s t said in
     let on = r.body (suc j) at.missing at.before in
     let begun : content_begun (f.Raw (suc j) raw.Body body) ≡ Some (suc j, heard.Body (suc j)) = if-true (nat_le 1 (length body)) (Some (suc j, heard.Body (suc j))) None at.some in
-    let is : say_first (f.Raw (suc j) raw.Body body) nothing ≡ Some (late_with (heard.Body (suc j)) (one-known j) (one-open j)) =
-    ap (λ o. say_within o (f.Raw (suc j) raw.Body body) (led (f.Raw (suc j) raw.Body body) nothing)) begun in
+    let is : say_first (f.Raw (suc j) raw.Body body) heard_nothing ≡ Some (late_with (heard.Body (suc j)) (one-known j) (one-open j)) =
+    ap (λ o. say_within o (f.Raw (suc j) raw.Body body) (led (f.Raw (suc j) raw.Body body) heard_nothing)) begun in
     subst (λ (o : Option Late). TakesLate o t) (sym is)
     (on-channel j (heard.Body (suc j)) t (ap (λ (x : Speech). x.stage) at.is ∙ raw-open (suc j) raw.Body body s t said) (at.left, ap (λ (x : Speech). x.content) at.is)
     (ap (λ (x : Speech). x.usage (suc j)) at.is ∙ on.used) (refl, refl))
 
-take-apart : (g : Frame) (s t : Speech) → Reachable s → is_apart g ≡ true → say g s ≡ Some t → TakesLate (say_first g nothing) t
+take-apart : (g : Frame) (s t : Speech) → Reachable s → is_apart g ≡ true → say g s ≡ Some t → TakesLate (say_first g heard_nothing) t
 take-apart (f.Raw k raw.Header head) s t r a said = take-header k head s t r said
 take-apart (f.Raw k raw.Body body) s t r a said = take-body k body s t r said
 take-apart (f.Raw k raw.RawMethod method) s t r a said = absurd cc
@@ -292,9 +289,9 @@ take-apart f.Heartbeat s t r a said = absurd cc
 
 -- ---- the first frame, and each that follows
 
-take-first : (g : Frame) (s t : Speech) → Reachable s → say g s ≡ Some t → TakesLate (say_first g nothing) t
+take-first : (g : Frame) (s t : Speech) → Reachable s → say g s ≡ Some t → TakesLate (say_first g heard_nothing) t
 take-first g s t r said = by (is_of_introduction g) (is_apart g) refl refl where
-  by : (b c : Bool) → is_of_introduction g ≡ b → is_apart g ≡ c → TakesLate (say_first g nothing) t
+  by : (b c : Bool) → is_of_introduction g ≡ b → is_apart g ≡ c → TakesLate (say_first g heard_nothing) t
   by true c i a = take-introduced g s t r i said
   by false true i a = take-apart g s t r a said
   by false false i a = take-far g s t a i said
@@ -315,10 +312,10 @@ take-all (g ∷ frames) l s t shut within fits said = by (say g s) refl (λ late
       ∙ rest takes.late next takes.shut takes.within takes.fits (sym (ap (λ o. say_all o frames) is) ∙ said)
 
 -- behind some frames
-take-rest : (frames : List Frame) (s t : Speech) → Reachable s → say_all (Some s) frames ≡ Some t → is_some (say_each_late (Some nothing) frames) ≡ true
+take-rest : (frames : List Frame) (s t : Speech) → Reachable s → say_all (Some s) frames ≡ Some t → is_some (say_each_late (Some heard_nothing) frames) ≡ true
 take-rest [] s t r said = refl
 take-rest (g ∷ frames) s t r said = by (say g s) refl where
-  by : (o : Option Speech) → say g s ≡ o → is_some (say_each_late (say_late g nothing) frames) ≡ true
+  by : (o : Option Speech) → say g s ≡ o → is_some (say_each_late (say_late g heard_nothing) frames) ≡ true
   by None is = absurd (let none : say_all (say g s) frames ≡ None = ap (λ o. say_all o frames) is in let both = sym none ∙ said in cc)
   by (Some next) is =
       let takes = take-first g s next r is in
@@ -330,13 +327,13 @@ some-of None h = absurd cc
 some-of (Some s) h = (s, refl)
 
 -- from the protocol header on
-header-late : (x : Frame) → is_amqp_header x ≡ true → say_late x nothing ≡ whole_on nothing (Some greeted)
-header-late (f.ProtocolHeader v) h = if-true (is_amqp_header (f.ProtocolHeader v)) (whole_on nothing (Some greeted)) None h
+header-late : (x : Frame) → is_amqp_header x ≡ true → say_late x heard_nothing ≡ whole_on heard_nothing (Some greeted)
+header-late (f.ProtocolHeader v) h = if-true (is_amqp_header (f.ProtocolHeader v)) (whole_on heard_nothing (Some greeted)) None h
 header-late (f.Method k method) h = absurd cc
 header-late (f.Raw k kind payload) h = absurd cc
 header-late f.Heartbeat h = absurd cc
 
-pub legal-taken : (before frames : List Frame) → Legal (before ++ frames) → IsTaken frames
+pub legal-taken : (before frames : List Frame) → Legal (before ++ frames) → IsTakenLate frames
 legal-taken [] [] legal = refl
 legal-taken [] (x ∷ frames) legal =
     let both = (all-said x frames).0 legal in

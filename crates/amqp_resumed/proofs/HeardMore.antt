@@ -5,8 +5,8 @@ use Rattle.amqp_frame.specs.declared.frame.Frame.{Frame}
 use Rattle.amqp_check.proofs.Hearing.{all-taken}
 use Rattle.amqp_resumed.specs.declared.resumed.Resumed.{Resumed}
 use Rattle.amqp_resumed.specs.declared.hearing.Hearing.{Hearing}
-use Rattle.amqp_resumed.specs.Rests.{IsTaken, IsFirstWrong}
-use Rattle.amqp_resumed.specs.Resumes.{Late, nothing, late_of, say_late, say_each_late, JudgedLate, HasHeardLate}
+use Rattle.amqp_resumed.specs.Rests.{IsTakenLate, IsFirstWrong}
+use Rattle.amqp_resumed.specs.Resumes.{Late, heard_nothing, late_of, say_late, say_each_late, JudgedLate, HasHeardLate}
 use Rattle.amqp_resumed.specs.HeardRests.{IsHeardRest, HasHeardRest}
 
 -- ---- one after another
@@ -20,11 +20,11 @@ front-some : (o : Option Late) (ys : List Frame) → is_some (say_each_late o ys
 front-some None ys h = h
 front-some (Some l) ys h = refl
 
-taken-front : (xs ys : List Frame) → IsTaken (xs ++ ys) → IsTaken xs
-taken-front xs ys h = front-some (say_each_late (Some nothing) xs) ys (ap is_some (sym (each-append (Some nothing) xs ys)) ∙ h)
+taken-front : (xs ys : List Frame) → IsTakenLate (xs ++ ys) → IsTakenLate xs
+taken-front xs ys h = front-some (say_each_late (Some heard_nothing) xs) ys (ap is_some (sym (each-append (Some heard_nothing) xs ys)) ∙ h)
 
-one-more : (frames : List Frame) (g : Frame) (l : Late) → say_each_late (Some nothing) frames ≡ Some l → say_each_late (Some nothing) (frames ++ g ∷ []) ≡ say_late g l
-one-more frames g l h = each-append (Some nothing) frames (g ∷ []) ∙ ap (λ o. say_each_late o (g ∷ [])) h ∙ last (say_late g l) where
+one-more : (frames : List Frame) (g : Frame) (l : Late) → say_each_late (Some heard_nothing) frames ≡ Some l → say_each_late (Some heard_nothing) (frames ++ g ∷ []) ≡ say_late g l
+one-more frames g l h = each-append (Some heard_nothing) frames (g ∷ []) ∙ ap (λ o. say_each_late o (g ∷ [])) h ∙ last (say_late g l) where
   last : (o : Option Late) → say_each_late o [] ≡ o
   last None = refl
   last (Some m) = refl
@@ -34,17 +34,17 @@ one-more frames g l h = each-append (Some nothing) frames (g ∷ []) ∙ ap (λ 
 wrong-more : (fs more : List Frame) (i : ℕ) → IsFirstWrong fs i → IsFirstWrong (fs ++ more) i
 wrong-more fs more i is = record {
   within = omega (arith, length-append fs more, is.within);
-  wrong = λ taken. is.wrong (subst IsTaken (take-append-le (suc i) fs more (omega (arith, is.within))) taken);
-  least = λ j below. subst IsTaken (sym (take-append-le (suc j) fs more (omega (arith, is.within)))) (is.least j below);
+  wrong = λ taken. is.wrong (subst IsTakenLate (take-append-le (suc i) fs more (omega (arith, is.within))) taken);
+  least = λ j below. subst IsTakenLate (sym (take-append-le (suc j) fs more (omega (arith, is.within)))) (is.least j below);
 }
 
-wrong-now : (fs : List Frame) (g : Frame) (i : ℕ) → i ≡ length fs → IsTaken fs → (IsTaken (fs ++ g ∷ []) → ⊥) → IsFirstWrong (fs ++ g ∷ []) i
+wrong-now : (fs : List Frame) (g : Frame) (i : ℕ) → i ≡ length fs → IsTakenLate fs → (IsTakenLate (fs ++ g ∷ []) → ⊥) → IsFirstWrong (fs ++ g ∷ []) i
 wrong-now fs g i is taken refused = record {
   within = omega (arith, length-append fs (g ∷ []));
-  wrong = λ h. refused (subst IsTaken (all-taken (fs ++ g ∷ []) (suc i) (omega (arith, length-append fs (g ∷ [])))) h);
+  wrong = λ h. refused (subst IsTakenLate (all-taken (fs ++ g ∷ []) (suc i) (omega (arith, length-append fs (g ∷ [])))) h);
   least = λ j below.
-      subst IsTaken (sym (take-append-le (suc j) fs (g ∷ []) (omega arith)))
-      (taken-front (take (suc j) fs) (drop (suc j) fs) (subst IsTaken (sym (take-append-drop (suc j) fs)) taken));
+      subst IsTakenLate (sym (take-append-le (suc j) fs (g ∷ []) (omega arith)))
+      (taken-front (take (suc j) fs) (drop (suc j) fs) (subst IsTakenLate (sym (take-append-drop (suc j) fs)) taken));
 }
 
 -- ---- what was heard
@@ -52,7 +52,7 @@ wrong-now fs g i is taken refused = record {
 all-heard : (frames : List Frame) (h : Hearing) → h.wrong ≡ None → HasHeardRest frames h → HasHeardLate frames h.said
 all-heard frames h none has = subst (λ (o : Option ℕ). IsHeardRest frames o h.said) none has.judged
 
-pub nothing-heard : (r : Resumed) → late_of r ≡ nothing → HasHeardRest [] (record { said = r; frames = 0; wrong = None })
+pub nothing-heard : (r : Resumed) → late_of r ≡ heard_nothing → HasHeardRest [] (record { said = r; frames = 0; wrong = None })
 nothing-heard r is = record { count = refl; judged = ap (λ (l : Late). Some l) (sym is) }
 
 count-more : (frames : List Frame) (g : Frame) (n : ℕ) → n ≡ length frames → n + 1 ≡ length (frames ++ g ∷ [])

@@ -15,7 +15,7 @@ use Rattle.amqp_types.proofs.Small.{if-true, if-false, and-left, and-right, and-
 use Rattle.amqp_resumed.specs.declared.resumed.Heard.{Heard}
 use Rattle.amqp_resumed.specs.declared.resumed.Heard.TheVariants as heard
 use Rattle.amqp_resumed.specs.Rests.{IsSaidNowhere}
-use Rattle.amqp_resumed.specs.Resumes.{Late, with_known, said_as, opened, is_opening, first_on, first_if, say_on, say_known, channel_used, may_say_method, heard_on, say_in_body, say_to, led, whole_on, introduce, is_of_introduction, missing_behind, content_begun, say_within, say_first, say_behind, say_late, say_each_late}
+use Rattle.amqp_resumed.specs.Resumes.{Late, with_known, said_as, opened_before, opens_channel, first_method, first_if, say_on, say_known, channel_used, may_say_method, past_content, say_in_body, say_to, led, whole_on, introduce, is_of_introduction, missing_behind, content_begun, say_within, say_first, say_behind, say_late, say_each_late}
 
 -- ---- tests
 
@@ -75,19 +75,19 @@ no-header k head none = by (nat_le 14 (length head) && (weight_in head == 0 && (
 module _ (g : Frame) (none : IsSaidNowhere g) where
   known-none : (l : Late) → say_known g l ≡ None
   known-none l = on (channel_used g) where
-    first : (n : ℕ) → first_on n g l ≡ None
+    first : (n : ℕ) → first_method n g l ≡ None
     first n =
-        both-none (is_opening g) (said_as (record l { known = with_known n l.known }) (say g l.said)) (said_as (opened n l) (say g (opened n l).said))
-        (ap (said_as (record l { known = with_known n l.known })) (none l.said)) (ap (said_as (opened n l)) (none (opened n l).said))
+        both-none (opens_channel g) (said_as (record l { known = with_known n l.known }) (say g l.said)) (said_as (opened_before n l) (say g (opened_before n l).said))
+        (ap (said_as (record l { known = with_known n l.known })) (none l.said)) (ap (said_as (opened_before n l)) (none (opened_before n l).said))
 
     on : (u : Option ℕ) → say_on u g l ≡ None
     on None = ap (said_as l) (none l.said)
     on (Some n) =
         both-none (l.known n) (said_as l (say g l.said)) (first_if n g l) (ap (said_as l) (none l.said))
-        (both-none (may_say_method l.said.stage l.said.content) (first_on n g l) None (first n) refl)
+        (both-none (may_say_method l.said.stage l.said.content) (first_method n g l) None (first n) refl)
 
-  left-none : (l : Late) → heard_on (say_known g l) ≡ None
-  left-none l = ap heard_on (known-none l)
+  left-none : (l : Late) → past_content (say_known g l) ≡ None
+  left-none l = ap past_content (known-none l)
 
 in-body-none : (g : Frame) → IsSaidNowhere g → (n : ℕ) (l : Late) → say_in_body n g l ≡ None
 in-body-none (f.Raw k raw.Body body) none n l =
@@ -103,16 +103,16 @@ to-none (f.Raw k raw.Body body) none n missing l =
     let empty = left-false (nat_le 1 (length body)) (nat_le (length body) missing) (empty-body k body none) in
     if-false (k == n && (nat_le 1 (length body) && nat_le (length body) missing)) (Some (record l { heard = heard.Missing n (missing - length body) })) None
     (and-false (k == n) (nat_le 1 (length body) && nat_le (length body) missing) empty)
-to-none (f.Raw k raw.Header head) none n missing l = both-none (missing == 0) (heard_on (say_known (f.Raw k raw.Header head) l)) None (left-none (f.Raw k raw.Header head) none l) refl
+to-none (f.Raw k raw.Header head) none n missing l = both-none (missing == 0) (past_content (say_known (f.Raw k raw.Header head) l)) None (left-none (f.Raw k raw.Header head) none l) refl
 to-none (f.Raw k raw.RawMethod method) none n missing l =
-    both-none (missing == 0) (heard_on (say_known (f.Raw k raw.RawMethod method) l)) None (left-none (f.Raw k raw.RawMethod method) none l) refl
+    both-none (missing == 0) (past_content (say_known (f.Raw k raw.RawMethod method) l)) None (left-none (f.Raw k raw.RawMethod method) none l) refl
 to-none (f.Method zero method) none n missing l = zeroth method none where
   zeroth : (method : _) → IsSaidNowhere (f.Method 0 method) → say_to n missing (f.Method 0 method) l ≡ None
   zeroth m.CloseOk unlike = left-none (f.Method 0 m.CloseOk) unlike l
-  zeroth other unlike = both-none (missing == 0) (heard_on (say_known (f.Method 0 other) l)) None (left-none (f.Method 0 other) unlike l) refl
-to-none (f.Method (suc k) method) none n missing l = both-none (missing == 0) (heard_on (say_known (f.Method (suc k) method) l)) None (left-none (f.Method (suc k) method) none l) refl
-to-none (f.ProtocolHeader v) none n missing l = both-none (missing == 0) (heard_on (say_known (f.ProtocolHeader v) l)) None (left-none (f.ProtocolHeader v) none l) refl
-to-none f.Heartbeat none n missing l = both-none (missing == 0) (heard_on (say_known f.Heartbeat l)) None (left-none f.Heartbeat none l) refl
+  zeroth other unlike = both-none (missing == 0) (past_content (say_known (f.Method 0 other) l)) None (left-none (f.Method 0 other) unlike l) refl
+to-none (f.Method (suc k) method) none n missing l = both-none (missing == 0) (past_content (say_known (f.Method (suc k) method) l)) None (left-none (f.Method (suc k) method) none l) refl
+to-none (f.ProtocolHeader v) none n missing l = both-none (missing == 0) (past_content (say_known (f.ProtocolHeader v) l)) None (left-none (f.ProtocolHeader v) none l) refl
+to-none f.Heartbeat none n missing l = both-none (missing == 0) (past_content (say_known f.Heartbeat l)) None (left-none f.Heartbeat none l) refl
 
 introduce-none : (g : Frame) → is_amqp_header g ≡ false → IsSaidNowhere g → (l : Late) → introduce g l ≡ None
 introduce-none (f.ProtocolHeader v) other none l = if-false (is_amqp_header (f.ProtocolHeader v)) (whole_on l (Some l.said)) None other

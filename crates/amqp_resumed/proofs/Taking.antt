@@ -19,8 +19,8 @@ use Rattle.amqp_legal.proofs.Sayable.{say-append, front-said}
 use Rattle.amqp_types.proofs.Small.{if-true, if-false, and-left, and-right, and-true}
 use Rattle.amqp_resumed.specs.declared.resumed.Heard.{Heard}
 use Rattle.amqp_resumed.specs.declared.resumed.Heard.TheVariants as heard
-use Rattle.amqp_resumed.specs.Rests.{IsTaken}
-use Rattle.amqp_resumed.specs.Resumes.{Late, nothing, FitsHeard, HasContent, channel_used, may_say_method, with_known, said_as, opened, is_opening, first_on, first_if, say_on, say_known, heard_on, say_in_body, say_to, bare_start_ok, bare_tune_ok, bare_open, led_by, led, whole_on, introduce, is_of_introduction, missing_behind, content_begun, say_within, say_first, say_behind, say_late, say_each_late}
+use Rattle.amqp_resumed.specs.Rests.{IsTakenLate}
+use Rattle.amqp_resumed.specs.Resumes.{Late, heard_nothing, FitsHeard, HasContent, channel_used, may_say_method, with_known, said_as, opened_before, opens_channel, first_method, first_if, say_on, say_known, past_content, say_in_body, say_to, bare_start_ok, bare_tune_ok, bare_open, led_by, led, whole_on, introduce, is_of_introduction, missing_behind, content_begun, say_within, say_first, say_behind, say_late, say_each_late}
 use Rattle.amqp_resumed.proofs.Using.{own-usage}
 use Rattle.amqp_resumed.proofs.Behind.{is_apart, with_content, behind-content}
 use Rattle.amqp_resumed.proofs.Reachable.{at_stage, Reachable, GoesOn, Heads, Carries, raw-open, headed, carried, begins, reached-more, reached-all}
@@ -49,33 +49,33 @@ late_with h known s0 = record { heard = h; said = s0; known = known }
 
 -- ---- a frame that is no part of the content
 
-if-heard : (b : Bool) (x y x' y' : Option Late) → heard_on x ≡ x' → heard_on y ≡ y' → heard_on (if b then x else y) ≡ (if b then x' else y')
+if-heard : (b : Bool) (x y x' y' : Option Late) → past_content x ≡ x' → past_content y ≡ y' → past_content (if b then x else y) ≡ (if b then x' else y')
 if-heard true x y x' y' h k = h
 if-heard false x y x' y' h k = k
 
-as-said : (l : Late) (o : Option Speech) → heard_on (said_as l o) ≡ said_as (record l { heard = heard.Frames }) o
+as-said : (l : Late) (o : Option Speech) → past_content (said_as l o) ≡ said_as (record l { heard = heard.Frames }) o
 as-said l None = refl
 as-said l (Some s) = refl
 
-left-heard : (g : Frame) (h : Heard) (known : ℕ → Bool) (s0 : Speech) → heard_on (say_known g (late_with h known s0)) ≡ say_known g (heard_of known s0)
+left-heard : (g : Frame) (h : Heard) (known : ℕ → Bool) (s0 : Speech) → past_content (say_known g (late_with h known s0)) ≡ say_known g (heard_of known s0)
 left-heard g h known s0 = on (channel_used g) where
-  first : (n : ℕ) → heard_on (first_on n g (late_with h known s0)) ≡ first_on n g (heard_of known s0)
+  first : (n : ℕ) → past_content (first_method n g (late_with h known s0)) ≡ first_method n g (heard_of known s0)
   first n =
       let l = late_with h known s0 in
       let l' = heard_of known s0 in
-      if-heard (is_opening g) (said_as (record l { known = with_known n known }) (say g s0)) (said_as (opened n l) (say g (opened n l).said))
-      (said_as (record l' { known = with_known n known }) (say g s0)) (said_as (opened n l') (say g (opened n l').said)) (as-said (record l { known = with_known n known }) (say g s0))
-      (as-said (opened n l) (say g (opened n l).said))
+      if-heard (opens_channel g) (said_as (record l { known = with_known n known }) (say g s0)) (said_as (opened_before n l) (say g (opened_before n l).said))
+      (said_as (record l' { known = with_known n known }) (say g s0)) (said_as (opened_before n l') (say g (opened_before n l').said)) (as-said (record l { known = with_known n known }) (say g s0))
+      (as-said (opened_before n l) (say g (opened_before n l).said))
 
-  on : (u : Option ℕ) → heard_on (say_on u g (late_with h known s0)) ≡ say_on u g (heard_of known s0)
+  on : (u : Option ℕ) → past_content (say_on u g (late_with h known s0)) ≡ say_on u g (heard_of known s0)
   on None = as-said (late_with h known s0) (say g s0)
   on (Some n) =
       if-heard (known n) (said_as (late_with h known s0) (say g s0)) (first_if n g (late_with h known s0)) (said_as (heard_of known s0) (say g s0)) (first_if n g (heard_of known s0))
       (as-said (late_with h known s0) (say g s0))
-      (if-heard (may_say_method s0.stage s0.content) (first_on n g (late_with h known s0)) None (first_on n g (heard_of known s0)) None (first n) refl)
+      (if-heard (may_say_method s0.stage s0.content) (first_method n g (late_with h known s0)) None (first_method n g (heard_of known s0)) None (first n) refl)
 
 -- what is taken where the content is known is taken behind a content
-leaves : (g : Frame) (h : Heard) (known : ℕ → Bool) (s0 t : Speech) → Takes (say_known g (heard_of known s0)) t → TakesLate (heard_on (say_known g (late_with h known s0))) t
+leaves : (g : Frame) (h : Heard) (known : ℕ → Bool) (s0 t : Speech) → Takes (say_known g (heard_of known s0)) t → TakesLate (past_content (say_known g (late_with h known s0))) t
 leaves g h known s0 t takes = record {
   late = heard_of takes.known takes.said;
   is = left-heard g h known s0 ∙ takes.is;
@@ -96,7 +96,7 @@ going-open : (st : Stage) → st ≡ OpenSaid → st ≢ CloseOkSaid
 going-open st now-open over = let both : OpenSaid ≡ CloseOkSaid = sym now-open ∙ over in absurd cc
 
 pub apart-left : (g : Frame) (h : Heard) (known : ℕ → Bool) (s0 s t : Speech) → is_apart g ≡ false → UnknownShut known s0 → s0.stage ≡ OpenSaid → s0.content ≡ NoContent
-    → FitsHeard (late_with h known s0) s → say g s ≡ Some t → TakesLate (heard_on (say_known g (late_with h known s0))) t
+    → FitsHeard (late_with h known s0) s → say g s ≡ Some t → TakesLate (past_content (say_known g (late_with h known s0))) t
 apart-left g h known s0 s t unlike shut now-open none fits said =
     let staged : s.stage ≡ OpenSaid = fits.stage ∙ now-open in
     let fits' = fits-open known s0 s fits.stage none (fits.usage (going-open s.stage staged)) in
@@ -115,14 +115,14 @@ closed CloseSaid s t h = let same : record s { stage = CloseOkSaid } ≡ t = cc 
 closed CloseOkSaid s t h = absurd cc
 
 pub close-left : (h : Heard) (known : ℕ → Bool) (s0 s t : Speech) → UnknownShut known s0 → s0.stage ≡ OpenSaid → say (f.Method 0 m.CloseOk) s ≡ Some t
-    → TakesLate (heard_on (say_known (f.Method 0 m.CloseOk) (late_with h known s0))) t
+    → TakesLate (past_content (say_known (f.Method 0 m.CloseOk) (late_with h known s0))) t
 close-left h known s0 s t shut now-open said =
     let over : t.stage ≡ CloseOkSaid = closed s.stage s t said in
     let next : Speech = record s0 { stage = CloseOkSaid } in
     let says : say (f.Method 0 m.CloseOk) s0 ≡ Some next = ap (λ st. in_stage st (f.Method 0 m.CloseOk) s0) now-open in
     record {
       late = heard_of known next;
-      is = ap (λ o. heard_on (said_as (late_with h known s0) o)) says;
+      is = ap (λ o. past_content (said_as (late_with h known s0) o)) says;
       fits = record { stage = over; content = λ going. absurd (going over); usage = λ going n sure. absurd (going over) };
       shut = shut;
       within = tt;
@@ -188,12 +188,12 @@ none-missing g n (suc missing) s t unlike now-open is said = absurd (refused g u
 
 apart-to : (g : Frame) (n missing : ℕ) (known : ℕ → Bool) (s0 s t : Speech) → is_apart g ≡ false → UnknownShut known s0 → s0.stage ≡ OpenSaid → s0.content ≡ NoContent
     → FitsHeard (late_with (heard.Missing n missing) known s0) s → say g s ≡ Some t
-    → TakesLate (if missing == 0 then heard_on (say_known g (late_with (heard.Missing n missing) known s0)) else None) t
+    → TakesLate (if missing == 0 then past_content (say_known g (late_with (heard.Missing n missing) known s0)) else None) t
 apart-to g n missing known s0 s t unlike shut now-open none fits said =
     let staged : s.stage ≡ OpenSaid = fits.stage ∙ now-open in
     let over : missing ≡ 0 = none-missing g n missing s t unlike staged (fits.content (going-open s.stage staged)) said in
     let test : (missing == 0) ≡ true = grind (arith, nat_tests) in
-    subst (λ (o : Option Late). TakesLate o t) (sym (if-true (missing == 0) (heard_on (say_known g (late_with (heard.Missing n missing) known s0))) None test))
+    subst (λ (o : Option Late). TakesLate o t) (sym (if-true (missing == 0) (past_content (say_known g (late_with (heard.Missing n missing) known s0))) None test))
     (apart-left g (heard.Missing n missing) known s0 s t unlike shut now-open none fits said)
 
 take-to : (g : Frame) (n missing : ℕ) (known : ℕ → Bool) (s0 s t : Speech) → UnknownShut known s0 → s0.stage ≡ OpenSaid → s0.content ≡ NoContent

@@ -6,11 +6,11 @@ use Rattle.amqp_legal.specs.Decider.{Speech, say}
 use Rattle.amqp_check.specs.Verdicts.{OnlyFrames, IsOnlyFrames, IsBadAt, IsCutAt}
 use Rattle.amqp_check.specs.declared.capture.Verdict.{Verdict}
 use Rattle.amqp_check.specs.declared.capture.Verdict.TheVariants as verdict
-use Rattle.amqp_resumed.specs.Resumes.{nothing, say_each_late}
+use Rattle.amqp_resumed.specs.Resumes.{heard_nothing, say_each_late}
 
 -- each of these frames may be said, as a `Resumed` judges them that heard nothing before
-abbrev pub IsTaken : List Frame → Type 0
-IsTaken frames = IsTrue (is_some (say_each_late (Some nothing) frames))
+abbrev pub IsTakenLate : List Frame → Type 0
+IsTakenLate frames = IsTrue (is_some (say_each_late (Some heard_nothing) frames))
 
 -- no conversation may say it, whatever it said before
 abbrev pub IsSaidNowhere : Frame → Type 0
@@ -19,8 +19,8 @@ IsSaidNowhere frame = (s : Speech) → say frame s ≡ None
 -- the frame of this number, counted from 0, is the first that is not taken
 pub record IsFirstWrong (frames : List Frame) (i : ℕ) : Type 0 where
   pub within : i < length frames
-  pub wrong : IsTaken (take (suc i) frames) → ⊥
-  pub least : (j : ℕ) → j < i → IsTaken (take (suc j) frames)
+  pub wrong : IsTakenLate (take (suc i) frames) → ⊥
+  pub least : (j : ℕ) → j < i → IsTakenLate (take (suc j) frames)
 
 -- the verdict on both sides of a capture that begins at a border of frames on each: the client's side is looked at
 -- first, then the server's, and then what the client said
@@ -33,4 +33,4 @@ IsLateVerdict client server (verdict.Illegal i) =
     (said : List Frame) × OnlyFrames client said × IsOnlyFrames server × IsFirstWrong said i
 IsLateVerdict client server (verdict.Legal frames others) =
     (said : List Frame) × (answered : List Frame) × OnlyFrames client said × OnlyFrames server answered
-    × IsTaken said × (frames ≡ length said) × (others ≡ length answered)
+    × IsTakenLate said × (frames ≡ length said) × (others ≡ length answered)

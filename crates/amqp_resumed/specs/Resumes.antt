@@ -40,8 +40,8 @@ led_to [] = None
 led_to (f ∷ frames) = if is_amqp_header f then say_all (Some greeted) frames else None
 
 -- nothing was heard
-abbrev pub nothing : Late
-nothing = record { heard = heard.Nothing; said = greeted; known = λ n. false }
+abbrev pub heard_nothing : Late
+heard_nothing = record { heard = heard.Nothing; said = greeted; known = λ n. false }
 
 -- the content of a conversation of which this was heard
 abbrev pub HasContent : Heard → Content → Content → Type 0
@@ -79,8 +79,8 @@ abbrev pub with_known : ℕ → (ℕ → Bool) → ℕ → Bool
 with_known n known k = if k == n then true else known k
 
 -- the same, of what was heard
-abbrev pub marked : ℕ → Late → Late
-marked n l = record l { known = with_known n l.known }
+abbrev pub known_now : ℕ → Late → Late
+known_now n l = record l { known = with_known n l.known }
 
 -- the conversation that is kept says a frame, where it may
 abbrev pub said_as : Late → Option Speech → Option Late
@@ -93,26 +93,26 @@ said_or_same None s = s
 said_or_same (Some t) s = t
 
 -- a channel was opened before what was heard
-abbrev pub opened : ℕ → Late → Late
-opened n l = record l {
+abbrev pub opened_before : ℕ → Late → Late
+opened_before n l = record l {
   said = said_or_same (say (Method n ChannelOpen) l.said) l.said;
   known = with_known n l.known;
 }
 
 -- the opening of a channel
-abbrev pub is_opening : Frame → Bool
-is_opening (Method n ChannelOpen) = true
-is_opening f = false
+abbrev pub opens_channel : Frame → Bool
+opens_channel (Method n ChannelOpen) = true
+opens_channel f = false
 
 -- the first method on a channel, which was opened before it, where it is no opening itself
-abbrev pub first_on : ℕ → Frame → Late → Option Late
-first_on n f l =
-    if is_opening f then said_as (marked n l) (say f l.said)
-    else said_as (opened n l) (say f (opened n l).said)
+abbrev pub first_method : ℕ → Frame → Late → Option Late
+first_method n f l =
+    if opens_channel f then said_as (known_now n l) (say f l.said)
+    else said_as (opened_before n l) (say f (opened_before n l).said)
 
 -- the same, where a method may be said now
 abbrev pub first_if : ℕ → Frame → Late → Option Late
-first_if n f l = if may_say_method l.said.stage l.said.content then first_on n f l else None
+first_if n f l = if may_say_method l.said.stage l.said.content then first_method n f l else None
 
 -- a frame where it is known which content may go on, by the channel on which it is a method
 abbrev pub say_on : Option ℕ → Frame → Late → Option Late
@@ -124,14 +124,14 @@ abbrev pub say_known : Frame → Late → Option Late
 say_known f l = say_on (channel_used f) f l
 
 -- from then on it is
-abbrev pub heard_on : Option Late → Option Late
-heard_on None = None
-heard_on (Some l) = Some (record l { heard = heard.Frames })
+abbrev pub past_content : Option Late → Option Late
+past_content None = None
+past_content (Some l) = Some (record l { heard = heard.Frames })
 
 -- a frame behind frames of a body alone
 abbrev pub say_in_body : ℕ → Frame → Late → Option Late
 say_in_body n (Raw k Body body) l = if k == n && nat_le 1 (length body) then Some l else None
-say_in_body n f l = heard_on (say_known f l)
+say_in_body n f l = past_content (say_known f l)
 
 -- a frame where so many octets of a body are missing
 abbrev pub say_to : ℕ → ℕ → Frame → Late → Option Late
@@ -139,18 +139,20 @@ say_to n missing (Raw k Body body) l =
     if k == n && (nat_le 1 (length body) && nat_le (length body) missing)
     then Some (record l { heard = heard.Missing n (missing - length body) })
     else None
-say_to n missing (Method zero CloseOk) l = heard_on (say_known (Method zero CloseOk) l)
-say_to n missing f l = if missing == 0 then heard_on (say_known f l) else None
+say_to n missing (Method zero CloseOk) l = past_content (say_known (Method zero CloseOk) l)
+say_to n missing f l = if missing == 0 then past_content (say_known f l) else None
 
 -- ---- the first frame that is heard
 
--- what a client says in the introduction that says nothing of itself
+-- start-ok of a client that says nothing of itself
 abbrev pub bare_start_ok : Frame
 bare_start_ok = Method 0 (StartOk [] [] [] [])
 
+-- its tune-ok
 abbrev pub bare_tune_ok : Frame
 bare_tune_ok = Method 0 (TuneOk 0 0 0)
 
+-- and its open
 abbrev pub bare_open : Frame
 bare_open = Method 0 (Open [])
 
@@ -200,14 +202,15 @@ missing_behind head =
 
 -- what is known of the content where a frame is the first that is heard and stands within one
 abbrev pub content_begun : Frame → Option (ℕ × Heard)
-content_begun (Raw (suc n) Header head) = option_map (λ missing. (suc n, heard.Missing (suc n) missing)) (missing_behind head)
+content_begun (Raw (suc n) Header head) =
+    option_map (λ missing. (suc n, heard.Missing (suc n) missing)) (missing_behind head)
 content_begun (Raw (suc n) Body body) = if nat_le 1 (length body) then Some (suc n, heard.Body (suc n)) else None
 content_begun f = None
 
 -- a frame behind the introduction, where it may begin within a content
 abbrev pub say_within : Option (ℕ × Heard) → Frame → Late → Option Late
-say_within None f l = heard_on (say_known f l)
-say_within (Some (n, begun)) f l = Some (record (opened n l) { heard = begun })
+say_within None f l = past_content (say_known f l)
+say_within (Some (n, begun)) f l = Some (record (opened_before n l) { heard = begun })
 
 -- the first frame
 abbrev pub say_first : Frame → Late → Option Late
@@ -234,7 +237,7 @@ say_each_late (Some l) (f ∷ frames) = say_each_late (say_late f l) frames
 
 -- these frames were heard, each of which might be said
 abbrev pub HasHeardLate : List Frame → Resumed → Type 0
-HasHeardLate frames r = say_each_late (Some nothing) frames ≡ Some (late_of r)
+HasHeardLate frames r = say_each_late (Some heard_nothing) frames ≡ Some (late_of r)
 
 -- a frame may be said, and this was heard then; or it may not
 abbrev pub JudgedLate : Option Late → Bool → Resumed → Type 0

@@ -7,7 +7,7 @@ ghost use Rattle.amqp_legal.specs.Speeches.{speech_of};
 ghost use Rattle.amqp_resumed.specs.Resumes.{channel_used as channel_used_by, said_or_same, said_each, led_by};
 ghost use Rattle.amqp_resumed.specs.Resumes.{bare_start_ok, bare_tune_ok, bare_open};
 ghost use Rattle.amqp_resumed.specs.Resumes.{is_of_introduction as is_introduced, missing_behind as missing_by};
-ghost use Rattle.amqp_resumed.specs.Resumes.{content_begun as begun_by, is_opening as opens};
+ghost use Rattle.amqp_resumed.specs.Resumes.{content_begun as begun_by, opens_channel as opens};
 
 use crate::resumed::Heard;
 use amqp_frame::{Frame, Method, RawKind};

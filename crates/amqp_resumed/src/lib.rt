@@ -16,6 +16,7 @@ mod resumed;
 pub use capture::check_from;
 pub use finding::{LateFinding, first_wrong};
 pub use laws::{
-    a_legal_conversation_is_taken_from_each_border, what_is_said_nowhere_is_refused_from_each_border,
+    a_legal_conversation_is_taken_from_each_border,
+    what_is_said_nowhere_is_refused_from_each_border,
 };
 pub use resumed::{Heard, Resumed};

@@ -41,13 +41,13 @@ pub struct Resumed {
 
 impl Resumed {
     ghost use Rattle.amqp_legal.specs.Decider.{say};
-    ghost use Rattle.amqp_resumed.specs.Resumes.{JudgedLate, late_of, nothing, opened, marked, may_say_method, first_if};
-    ghost use Rattle.amqp_resumed.specs.Resumes.{first_on, said_as, led, say_within};
-    ghost use Rattle.amqp_resumed.specs.Resumes.{say_known, say_in_body, say_to, heard_on, say_first, introduce, say_late};
+    ghost use Rattle.amqp_resumed.specs.Resumes.{JudgedLate, late_of, heard_nothing, opened_before, known_now, may_say_method, first_if};
+    ghost use Rattle.amqp_resumed.specs.Resumes.{first_method, said_as, led, say_within};
+    ghost use Rattle.amqp_resumed.specs.Resumes.{say_known, say_in_body, say_to, past_content, say_first, introduce, say_late};
 
     /// Nothing was heard.
     pub fn new(alloc: Global) -> Result<Resumed, NoMemory>
-        ensures { IfOk result (λ r. late_of r ≡ nothing) }
+        ensures { IfOk result (λ r. late_of r ≡ heard_nothing) }
     {
         let known = Vec::from_elem(alloc, false, CHANNELS)?;
         let said = Speech::new(alloc)?;
@@ -184,7 +184,7 @@ impl Resumed {
 
     // A frame that is no part of a content that was begun before.
     fn leave(&mut self, frame: &Frame) -> bool
-        ensures { JudgedLate (heard_on (say_known frame.now (late_of self.old))) result self.new }
+        ensures { JudgedLate (past_content (say_known frame.now (late_of self.old))) result self.new }
     {
         let is_said = self.say_known(frame);
         if is_said {
@@ -223,7 +223,7 @@ impl Resumed {
 
     // Says a method on a channel of which nothing is known: it opens the channel, which was not open, or uses it.
     fn say_opening_or_use(&mut self, channel: ChannelId, frame: &Frame) -> bool
-        ensures { JudgedLate (first_on channel frame.now (late_of self.old)) result self.new }
+        ensures { JudgedLate (first_method channel frame.now (late_of self.old)) result self.new }
     {
         if is_opening(frame) {
             self.note_known(channel);
@@ -242,14 +242,14 @@ impl Resumed {
 
     // The usage of a channel is known from now on.
     fn note_known(&mut self, channel: ChannelId)
-        ensures { late_of self.new ≡ marked channel (late_of self.old) }
+        ensures { late_of self.new ≡ known_now channel (late_of self.old) }
     {
         self.known[channel as usize] = true;
     }
 
     // Opens a channel that was opened before what was heard.
     fn open(&mut self, channel: ChannelId)
-        ensures { late_of self.new ≡ opened channel (late_of self.old) }
+        ensures { late_of self.new ≡ opened_before channel (late_of self.old) }
     {
         let opening = Frame::Method(channel, Method::ChannelOpen);
         let _ = self.said.say(&opening);
