@@ -1,5 +1,5 @@
 -- Where it is known which content may go on: what a conversation that fits may say is taken, and it fits then.
-use Rattle.std.proofs.Common.{◌≡◌, ◌≢◌, ◌⊎◌, inl, inr, ◌∙◌, ap, ap₂, sym, refl, subst, ℕ, zero, suc, ◌==◌, if◌then◌else◌, Bool, true, false, List, [], ◌∷◌, Option, Some, None, option_map, arith}
+use Rattle.std.proofs.Common.{◌≡◌, ◌≢◌, ◌⊎◌, inl, inr, ◌∙◌, ap, ap₂, sym, refl, subst, ℕ, zero, suc, ◌==◌, Bool, true, false, Option, Some, None, option_map, arith}
 use Rattle.std.proofs.lemmas.Bool.Decides.{nat_tests}
 use Rattle.std.proofs.lemmas.Bool.{cases_eq}
 use Rattle.amqp_frame.specs.declared.frame.Frame.{Frame}
@@ -10,7 +10,7 @@ use Rattle.amqp_legal.specs.Decider.{Speech, say, with_usage, is_passed_through}
 use Rattle.amqp_legal.specs.declared.progress.Stage.{Stage}
 use Rattle.amqp_legal.specs.declared.progress.Stage.TheVariants.{HeaderSaid, StartOkSaid, TuneOkSaid, OpenSaid, CloseSaid, CloseOkSaid}
 use Rattle.amqp_legal.specs.declared.progress.Content.{Content}
-use Rattle.amqp_legal.specs.declared.progress.Content.TheVariants.{NoContent, MethodSaid, BodyMissing}
+use Rattle.amqp_legal.specs.declared.progress.Content.TheVariants.{NoContent}
 use Rattle.amqp_legal.specs.declared.progress.Usage.{Usage}
 use Rattle.amqp_legal.specs.declared.progress.Usage.TheVariants.{Shut, InUse, Left}
 use Rattle.amqp_types.proofs.Small.{if-true, if-false}

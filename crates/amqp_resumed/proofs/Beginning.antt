@@ -1,5 +1,5 @@
 -- The first frame that is heard is taken where some conversation may say it; and so is each that follows.
-use Rattle.std.proofs.Common.{◌≡◌, ◌≢◌, ◌⊎◌, inl, inr, ◌∙◌, ap, ap₂, sym, refl, subst, ℕ, zero, suc, ◌-◌, ◌==◌, ◌&&◌, not, nat_le, if◌then◌else◌, Bool, true, false, List, [], ◌∷◌, ◌++◌, length, Option, Some, None, option_map, is_some, IsTrue, arith}
+use Rattle.std.proofs.Common.{◌≡◌, ◌≢◌, ◌⊎◌, inl, inr, ◌∙◌, ap, sym, refl, subst, ℕ, zero, suc, ◌==◌, ◌&&◌, not, nat_le, Bool, true, false, List, [], ◌∷◌, ◌++◌, length, Option, Some, None, option_map, is_some, arith}
 use Rattle.std.proofs.lemmas.Bool.Decides.{nat_tests}
 use Rattle.std.proofs.lemmas.Bool.{cases_eq}
 use Rattle.amqp_frame.specs.declared.frame.Frame.{Frame}
@@ -8,12 +8,10 @@ use Rattle.amqp_frame.specs.declared.frame.RawKind.TheVariants as raw
 use Rattle.amqp_frame.specs.declared.method.Method.TheVariants as m
 use Rattle.amqp_legal.specs.Legal.{Legal}
 use Rattle.amqp_legal.specs.Octets.{class_in, weight_in, body_size_in}
-use Rattle.amqp_legal.specs.Decider.{Speech, greeted, say, say_all, say_block, in_stage, in_content, is_amqp_header, is_content_header, with_usage}
+use Rattle.amqp_legal.specs.Decider.{Speech, greeted, say, say_all, say_block, in_stage, is_amqp_header, with_usage}
 use Rattle.amqp_legal.specs.declared.progress.Stage.{Stage}
 use Rattle.amqp_legal.specs.declared.progress.Stage.TheVariants.{HeaderSaid, StartOkSaid, TuneOkSaid, OpenSaid, CloseSaid, CloseOkSaid}
-use Rattle.amqp_legal.specs.declared.progress.Content.{Content}
-use Rattle.amqp_legal.specs.declared.progress.Content.TheVariants.{NoContent, MethodSaid, BodyMissing}
-use Rattle.amqp_legal.specs.declared.progress.Usage.{Usage}
+use Rattle.amqp_legal.specs.declared.progress.Content.TheVariants.{NoContent}
 use Rattle.amqp_legal.specs.declared.progress.Usage.TheVariants.{Shut, InUse}
 use Rattle.amqp_legal.proofs.Saying.{all-said}
 use Rattle.amqp_legal.proofs.Sayable.{say-append, front-said}
@@ -21,10 +19,10 @@ use Rattle.amqp_types.proofs.Small.{if-true, if-false, and-left, and-right, and-
 use Rattle.amqp_resumed.specs.declared.resumed.Heard.{Heard}
 use Rattle.amqp_resumed.specs.declared.resumed.Heard.TheVariants as heard
 use Rattle.amqp_resumed.specs.Rests.{IsTakenLate}
-use Rattle.amqp_resumed.specs.Resumes.{Late, heard_nothing, FitsHeard, HasContent, with_known, opened_before, said_each, say_known, past_content, bare_start_ok, bare_tune_ok, bare_open, led_by, led, whole_on, introduce, is_of_introduction, missing_behind, content_begun, say_within, say_first, say_behind, say_late, say_each_late}
+use Rattle.amqp_resumed.specs.Resumes.{Late, heard_nothing, FitsHeard, HasContent, with_known, said_each, say_known, past_content, bare_start_ok, bare_tune_ok, bare_open, led_by, led, whole_on, introduce, is_of_introduction, missing_behind, content_begun, say_within, say_first, say_late, say_each_late}
 use Rattle.amqp_resumed.proofs.Using.{own-usage, other-usage}
 use Rattle.amqp_resumed.proofs.Behind.{is_apart, in-content-block, open-stage}
-use Rattle.amqp_resumed.proofs.Reachable.{is_early, at_stage, Reachable, GoesOn, Heads, Carries, raw-open, headed, carried, begins, reached-more, reached-all}
+use Rattle.amqp_resumed.proofs.Reachable.{is_early, at_stage, Reachable, raw-open, headed, carried, begins, reached-all}
 use Rattle.amqp_resumed.proofs.Advancing.{heard_of, UnknownShut}
 use Rattle.amqp_resumed.proofs.Taking.{TakesLate, IsWithin, late_with, apart-left, close-left, take-next}
 

@@ -1,18 +1,16 @@
 -- Behind a content: what may be said there may be said where no content goes on.
-use Rattle.std.proofs.Common.{◌≡◌, ◌≢◌, ◌∙◌, ap, sym, refl, subst, ℕ, zero, suc, if◌then◌else◌, Bool, true, false, List, [], ◌∷◌, Option, Some, None}
+use Rattle.std.proofs.Common.{◌≡◌, ◌∙◌, ap, sym, refl, ℕ, zero, suc, if◌then◌else◌, Bool, true, false, Option, Some, None}
 use Rattle.amqp_frame.specs.declared.frame.Frame.{Frame}
 use Rattle.amqp_frame.specs.declared.frame.Frame.TheVariants as f
 use Rattle.amqp_frame.specs.declared.frame.RawKind.TheVariants as raw
 use Rattle.amqp_frame.specs.declared.method.Method.TheVariants as m
 use Rattle.amqp_legal.specs.Octets.{class_in}
-use Rattle.amqp_legal.specs.Decider.{Speech, say, in_stage, in_content, say_block, say_method, say_open, say_use, say_close, say_close_ok, is_passed_through}
-use Rattle.amqp_legal.specs.declared.progress.Stage.{Stage}
+use Rattle.amqp_legal.specs.Decider.{Speech, say, in_stage, in_content, say_block, say_open, say_use, say_close, say_close_ok, is_passed_through}
 use Rattle.amqp_legal.specs.declared.progress.Stage.TheVariants.{OpenSaid}
 use Rattle.amqp_legal.specs.declared.progress.Content.{Content}
 use Rattle.amqp_legal.specs.declared.progress.Content.TheVariants.{NoContent, MethodSaid, BodyMissing}
 use Rattle.amqp_legal.specs.declared.progress.Usage.{Usage}
 use Rattle.amqp_legal.specs.declared.progress.Usage.TheVariants.{Shut, InUse, Left}
-use Rattle.amqp_resumed.specs.Resumes.{may_say_method}
 
 -- a part of a content, or our close-ok of the connection
 abbrev pub is_apart : Frame → Bool

@@ -1,5 +1,5 @@
 -- What holds of each conversation that frames lead to.
-use Rattle.std.proofs.Common.{◌≡◌, ◌≢◌, ◌∙◌, ap, sym, refl, subst, ℕ, zero, suc, ◌-◌, ◌==◌, ◌&&◌, not, arith, nat_le, if◌then◌else◌, Bool, true, false, List, [], ◌∷◌, length, Option, Some, None}
+use Rattle.std.proofs.Common.{◌≡◌, ◌∙◌, ap, sym, refl, subst, ℕ, zero, suc, ◌-◌, ◌==◌, ◌&&◌, not, arith, nat_le, Bool, true, false, List, [], ◌∷◌, length, Option, Some, None}
 use Rattle.amqp_frame.specs.declared.frame.Frame.{Frame}
 use Rattle.amqp_frame.specs.declared.frame.Frame.TheVariants as f
 use Rattle.amqp_frame.specs.declared.frame.RawKind.TheVariants as raw
@@ -14,7 +14,7 @@ use Rattle.amqp_legal.specs.declared.progress.Usage.{Usage}
 use Rattle.amqp_legal.specs.declared.progress.Usage.TheVariants.{Shut, InUse, Left}
 use Rattle.std.proofs.lemmas.Bool.Decides.{nat_tests}
 use Rattle.amqp_types.proofs.Small.{if-true, if-false, and-left, and-right}
-use Rattle.amqp_resumed.proofs.Behind.{is_apart, in-content-block, open-stage}
+use Rattle.amqp_resumed.proofs.Behind.{in-content-block}
 
 -- a stage of the introduction
 abbrev pub is_early : Stage → Bool

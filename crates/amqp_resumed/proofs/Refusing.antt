@@ -15,7 +15,7 @@ use Rattle.amqp_types.proofs.Small.{if-true, if-false, and-left, and-right, and-
 use Rattle.amqp_resumed.specs.declared.resumed.Heard.{Heard}
 use Rattle.amqp_resumed.specs.declared.resumed.Heard.TheVariants as heard
 use Rattle.amqp_resumed.specs.Rests.{IsSaidNowhere}
-use Rattle.amqp_resumed.specs.Resumes.{Late, with_known, said_as, opened_before, opens_channel, first_method, first_if, say_on, say_known, channel_used, may_say_method, past_content, say_in_body, say_to, led, whole_on, introduce, is_of_introduction, missing_behind, content_begun, say_within, say_first, say_behind, say_late, say_each_late}
+use Rattle.amqp_resumed.specs.Resumes.{Late, with_known, said_as, opened_before, opens_channel, first_method, first_if, say_on, say_known, channel_used, may_say_method, past_content, say_in_body, say_to, led, whole_on, introduce, is_of_introduction, missing_behind, content_begun, say_within, say_behind, say_late, say_each_late}
 
 -- ---- tests
 

@@ -1,11 +1,10 @@
 -- One frame more is heard from a border on.
-use Rattle.std.proofs.Common.{◌≡◌, ◌≢◌, ◌↔◌, ◌∙◌, ap, ap₂, sym, refl, subst, ℕ, zero, suc, ◌==◌, if◌then◌else◌, Bool, true, false, List, [], ◌∷◌, ◌++◌, Option, Some, None, is_some, IsTrue, append_assoc}
+use Rattle.std.proofs.Common.{◌≡◌, ◌≢◌, ◌∙◌, ap, sym, refl, Bool, true, false, List, [], ◌∷◌, ◌++◌, Option, Some, None, is_some}
 use Rattle.amqp_frame.specs.declared.frame.Frame.{Frame}
 use Rattle.amqp_legal.specs.Legal.{Legal}
 use Rattle.amqp_legal.specs.Decider.{Speech, greeted, say, say_all, in_stage, is_amqp_header}
 use Rattle.amqp_legal.specs.declared.progress.Stage.TheVariants.{CloseOkSaid}
-use Rattle.amqp_legal.specs.declared.progress.Usage.{Usage}
-use Rattle.amqp_legal.proofs.Saying.{all-said, one-more, front-legal}
+use Rattle.amqp_legal.proofs.Saying.{all-said, one-more}
 use Rattle.amqp_legal.proofs.Sayable.{say-append, front-said}
 use Rattle.amqp_types.proofs.Small.{if-true, if-false}
 use Rattle.amqp_resumed.specs.Resumes.{led_to}

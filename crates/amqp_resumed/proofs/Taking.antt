@@ -1,29 +1,20 @@
 -- What is legal from its beginning on is taken from each border on.
-use Rattle.std.proofs.Common.{◌≡◌, ◌≢◌, ◌⊎◌, inl, inr, ◌∙◌, ap, ap₂, sym, refl, subst, ℕ, zero, suc, ◌-◌, ◌==◌, ◌&&◌, not, nat_le, if◌then◌else◌, Bool, true, false, List, [], ◌∷◌, ◌++◌, length, Option, Some, None, is_some, IsTrue, arith}
+use Rattle.std.proofs.Common.{◌≡◌, ◌≢◌, ◌∙◌, ap, ap₂, sym, refl, subst, ℕ, zero, suc, ◌-◌, ◌==◌, ◌&&◌, nat_le, if◌then◌else◌, Bool, true, false, length, Option, Some, None, arith}
 use Rattle.std.proofs.lemmas.Bool.Decides.{nat_tests}
-use Rattle.std.proofs.lemmas.Bool.{cases_eq}
 use Rattle.amqp_frame.specs.declared.frame.Frame.{Frame}
 use Rattle.amqp_frame.specs.declared.frame.Frame.TheVariants as f
 use Rattle.amqp_frame.specs.declared.frame.RawKind.TheVariants as raw
 use Rattle.amqp_frame.specs.declared.method.Method.TheVariants as m
-use Rattle.amqp_legal.specs.Legal.{Legal}
-use Rattle.amqp_legal.specs.Octets.{class_in, weight_in, body_size_in}
-use Rattle.amqp_legal.specs.Decider.{Speech, greeted, say, say_all, in_stage, in_content, is_amqp_header}
+use Rattle.amqp_legal.specs.Decider.{Speech, say, in_stage}
 use Rattle.amqp_legal.specs.declared.progress.Stage.{Stage}
 use Rattle.amqp_legal.specs.declared.progress.Stage.TheVariants.{HeaderSaid, StartOkSaid, TuneOkSaid, OpenSaid, CloseSaid, CloseOkSaid}
-use Rattle.amqp_legal.specs.declared.progress.Content.{Content}
 use Rattle.amqp_legal.specs.declared.progress.Content.TheVariants.{NoContent, MethodSaid, BodyMissing}
-use Rattle.amqp_legal.specs.declared.progress.Usage.TheVariants.{Shut, InUse}
-use Rattle.amqp_legal.proofs.Saying.{all-said}
-use Rattle.amqp_legal.proofs.Sayable.{say-append, front-said}
-use Rattle.amqp_types.proofs.Small.{if-true, if-false, and-left, and-right, and-true}
+use Rattle.amqp_types.proofs.Small.{if-true, and-true}
 use Rattle.amqp_resumed.specs.declared.resumed.Heard.{Heard}
 use Rattle.amqp_resumed.specs.declared.resumed.Heard.TheVariants as heard
-use Rattle.amqp_resumed.specs.Rests.{IsTakenLate}
-use Rattle.amqp_resumed.specs.Resumes.{Late, heard_nothing, FitsHeard, HasContent, channel_used, may_say_method, with_known, said_as, opened_before, opens_channel, first_method, first_if, say_on, say_known, past_content, say_in_body, say_to, bare_start_ok, bare_tune_ok, bare_open, led_by, led, whole_on, introduce, is_of_introduction, missing_behind, content_begun, say_within, say_first, say_behind, say_late, say_each_late}
-use Rattle.amqp_resumed.proofs.Using.{own-usage}
+use Rattle.amqp_resumed.specs.Resumes.{Late, FitsHeard, channel_used, may_say_method, with_known, said_as, opened_before, opens_channel, first_method, first_if, say_on, say_known, past_content, say_in_body, say_to, say_behind}
 use Rattle.amqp_resumed.proofs.Behind.{is_apart, with_content, behind-content}
-use Rattle.amqp_resumed.proofs.Reachable.{at_stage, Reachable, GoesOn, Heads, Carries, raw-open, headed, carried, begins, reached-more, reached-all}
+use Rattle.amqp_resumed.proofs.Reachable.{headed, carried}
 use Rattle.amqp_resumed.proofs.Advancing.{heard_of, UnknownShut, Takes, take-frame}
 
 -- ---- what is kept

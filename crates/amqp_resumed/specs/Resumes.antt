@@ -8,7 +8,7 @@ use Rattle.amqp_frame.specs.declared.method.Method.TheVariants.{StartOk, SecureO
 use Rattle.amqp_frame.specs.declared.method.Method.TheVariants.{ChannelOpen, ChannelFlow, ChannelFlowOk}
 use Rattle.amqp_frame.specs.declared.method.Method.TheVariants.{ChannelClose, ChannelCloseOk}
 use Rattle.amqp_legal.specs.Octets.{class_in, weight_in, body_size_in}
-use Rattle.amqp_legal.specs.Decider.{Speech, greeted, say, say_all, is_amqp_header, is_passed_through, with_usage}
+use Rattle.amqp_legal.specs.Decider.{Speech, greeted, say, say_all, is_amqp_header, is_passed_through}
 use Rattle.amqp_legal.specs.Speeches.{speech_of}
 use Rattle.amqp_legal.specs.declared.progress.Stage.{Stage}
 use Rattle.amqp_legal.specs.declared.progress.Stage.TheVariants.{OpenSaid, CloseOkSaid}

@@ -1,4 +1,4 @@
-use Rattle.std.proofs.Common.{ap, ap₂, ℕ, Bool}
+use Rattle.std.proofs.Common.{ap₂, ℕ, Bool}
 use Rattle.amqp_legal.specs.Decider.{Speech}
 use Rattle.amqp_resumed.specs.Resumes.{Late}
 use Rattle.amqp_resumed.specs.declared.resumed.Heard.TheVariants as heard
