@@ -3,7 +3,7 @@
 use crate::support::octets;
 use amqp_double::Double;
 use amqp_double_port::{line_of, told};
-use amqp_double_socket::serve;
+use amqp_double_socket::{Ended, serve};
 use amqp_settings::Configuration;
 use amqp_types::NoMemory;
 use amqp_vectors::{
@@ -63,29 +63,30 @@ const NUMBERS: Configuration = Configuration {
     heartbeat: 0,
 };
 
+// Whether this is said of a client that was served.
+fn is_told(alloc: Global, row: &Row, ended: Ended, client: &[u8]) -> Result<bool, NoMemory> {
+    let line = line_of(alloc, 1, ended, client)?;
+    let told = told(alloc, ended, client)?;
+    Ok(line.as_str() == row.line && told.as_str() == row.told)
+}
+
 // Whether this is said of a client, and its answers end so.
-fn is_said(alloc: Global, row: &Row, double: &mut Double) -> Result<bool, NoMemory> {
+fn is_said(alloc: Global, row: &Row) -> Result<bool, NoMemory> {
     let client = octets(alloc, row.client)?;
     let answered = octets(alloc, row.answered)?;
+    let mut double = Double::new(alloc, NUMBERS)?;
     let mut reader: &[u8] = &client;
     let mut writer: Vec<u8> = Vec::new(alloc);
-    let ended = serve(alloc, double, &mut reader, &mut writer);
-    let line = line_of(alloc, 1, ended, double.client())?;
-    let told = told(alloc, ended, double.client())?;
-    Ok(
-        writer.as_slice().ends_with(&answered)
-            && line.as_str() == row.line
-            && told.as_str() == row.told,
-    )
+    let ended = serve(alloc, &mut double, &mut reader, &mut writer);
+    let is_told = is_told(alloc, row, ended, double.client());
+    drop(double);
+    Ok(is_told? && writer.as_slice().ends_with(&answered))
 }
 
 // The line of the first row of which something else is said.
 fn first_other(alloc: Global) -> Result<Option<&'static str>, NoMemory> {
     for row in &ROWS {
-        let mut double = Double::new(alloc, NUMBERS)?;
-        let is_said = is_said(alloc, row, &mut double);
-        drop(double);
-        if !is_said? {
+        if !is_said(alloc, row)? {
             return Ok(Some(row.line));
         }
     }
