@@ -1,4 +1,5 @@
-//! A client of a broker, by a word: `amqp publish` publishes, and `amqp consume` prints and acknowledges.
+//! A client of a broker, by a word: `amqp publish` publishes, and `amqp consume` prints and acknowledges. `amqp judge`
+//! judges a captured link, and `amqp double` is a server for clients that are tried.
 //!
 //! | word | what it says |
 //! |---|---|
@@ -44,6 +45,8 @@ use std::time::Clock;
 
 const HELP_TEXT: &str = "usage: amqp publish [OPTION..] URI EXCHANGE KEY
        amqp consume [OPTION..] URI QUEUE [COUNT]
+       amqp judge CLIENT SERVER
+       amqp double PORT [COUNT]
        amqp publish --help
        amqp consume --help
 
@@ -117,6 +120,12 @@ fn main(rt: HostRuntime) -> ExitCode {
         Ok(words) => words,
         Err(stop) => return ExitCode::from(explain(&rt, "amqp", HELP_TEXT, stop)),
     };
+    if let Some(rest) = amqp_judge::asked(&words) {
+        return ExitCode::from(amqp_judge::run(&rt, alloc, rest));
+    }
+    if let Some(rest) = amqp_double_port::asked(&words) {
+        return ExitCode::from(amqp_double_port::run(&rt, alloc, rest));
+    }
     ExitCode::from(match job_of(&words) {
         Some((Job::Publish, rest)) => published(rt, alloc, rest),
         Some((Job::Consume, rest)) => consumed(rt, alloc, rest),

@@ -8,16 +8,30 @@
 //! nothing illegal.
 #![tactic(auto)]
 
+mod broken;
 mod capture;
+mod cause;
+mod closing;
 mod end;
 mod expected;
 mod finding;
 mod frames;
 mod judge;
 mod laws;
+mod names;
+mod protocol;
 mod shown;
 
+pub use broken::Broken;
 pub use capture::{Verdict, check};
-pub use expected::Expected;
+pub use cause::{Cause, CauseAt, cause_of};
+pub use closing::{Closing, closing_in, last_close};
+pub use end::End;
+pub use expected::{Expected, behind_header};
 pub use finding::{Finding, first_illegal};
+pub use frames::{Next, read_next};
+pub use judge::Judge;
 pub use laws::{captures_have_one_verdict, what_is_found_is_the_verdict, what_may_follow};
+pub use names::method_name;
+pub use protocol::other_protocol;
+pub use shown::{Standing, channel_in, channel_of, show_content, stage_name, usage_name};

@@ -3,70 +3,80 @@
 
 use crate::expected::Expected;
 use crate::finding::Finding;
-use amqp_frame::{Frame, Method, RawKind};
+use crate::names::{method_name, name_of};
+use amqp_frame::{Frame, RawKind};
 use amqp_legal::{Content, Stage, Usage};
 use amqp_types::ChannelId;
 use std::fmt;
 
-fn method_name(method: &Method) -> &'static str {
-    match method {
-        Method::Start(..) => "start",
-        Method::StartOk(..) => "start-ok",
-        Method::Secure(_) => "secure",
-        Method::SecureOk(_) => "secure-ok",
-        Method::Tune(..) => "tune",
-        Method::TuneOk(..) => "tune-ok",
-        Method::Open(_) => "open",
-        Method::OpenOk => "open-ok",
-        Method::Close(..) => "close",
-        Method::CloseOk => "close-ok",
-        Method::Blocked(_) => "blocked",
-        Method::Unblocked => "unblocked",
-        Method::UpdateSecret(..) => "update-secret",
-        Method::UpdateSecretOk => "update-secret-ok",
-        Method::ChannelOpen => "channel open",
-        Method::ChannelOpenOk => "channel open-ok",
-        Method::ChannelFlow(_) => "channel flow",
-        Method::ChannelFlowOk(_) => "channel flow-ok",
-        Method::ChannelClose(..) => "channel close",
-        Method::ChannelCloseOk => "channel close-ok",
+// A content header, by what stands in it.
+fn show_header<W: fmt::Write>(payload: &[u8], f: &mut fmt::Formatter<W>) -> fmt::Result {
+    match payload {
+        [a, b, c, d, size @ ..] => {
+            let class = u16::from_be_bytes([*a, *b]);
+            let weight = u16::from_be_bytes([*c, *d]);
+            write!(f, "a content header of class {class} and weight {weight}")?;
+            match size {
+                [a, b, c, d, e, g, h, i, ..] => {
+                    let size = u64::from_be_bytes([*a, *b, *c, *d, *e, *g, *h, *i]);
+                    write!(f, ", for a body of {size} octets,")
+                }
+                _ => Ok(()),
+            }
+        }
+        _ => f.write_str("a content header"),
     }
 }
 
-fn raw_name(kind: RawKind) -> &'static str {
-    match kind {
-        RawKind::RawMethod => "a method of another class",
-        RawKind::Header => "a content header",
-        RawKind::Body => "a body frame",
+// A method whose arguments are not read.
+fn show_raw_method<W: fmt::Write>(payload: &[u8], f: &mut fmt::Formatter<W>) -> fmt::Result {
+    match payload {
+        [a, b, c, d, ..] => {
+            let class = u16::from_be_bytes([*a, *b]);
+            let method = u16::from_be_bytes([*c, *d]);
+            let name = method_name(class, method);
+            write!(f, "{name} ({class}.{method})")
+        }
+        _ => f.write_str("a method"),
     }
 }
 
-fn frame_name(frame: &Frame) -> &'static str {
+// What a frame is.
+fn show_kind<W: fmt::Write>(frame: &Frame, f: &mut fmt::Formatter<W>) -> fmt::Result {
     match frame {
-        Frame::ProtocolHeader(_) => "a protocol header",
-        Frame::Method(_, method) => method_name(method),
-        Frame::Raw(_, kind, _) => raw_name(*kind),
-        Frame::Heartbeat => "a heartbeat",
+        Frame::ProtocolHeader(v) => {
+            let (major, minor, revision) = (v.major, v.minor, v.revision);
+            write!(f, "a protocol header of version {major}-{minor}-{revision}")
+        }
+        Frame::Method(_, method) => f.write_str(name_of(method)),
+        Frame::Raw(_, RawKind::RawMethod, payload) => show_raw_method(payload.as_bytes(), f),
+        Frame::Raw(_, RawKind::Header, payload) => show_header(payload.as_bytes(), f),
+        Frame::Raw(_, RawKind::Body, payload) => {
+            let len = payload.len();
+            write!(f, "a body frame of {len} octets")
+        }
+        Frame::Heartbeat => f.write_str("a heartbeat"),
     }
 }
 
-// The channel on which a content goes on; 0 where none does.
-fn channel_in(content: Content) -> ChannelId {
+/// The channel on which a content goes on; 0 where none does.
+pub fn channel_in(content: Content) -> ChannelId {
     match content {
         Content::NoContent => 0,
         Content::MethodSaid(channel, _) | Content::BodyMissing(channel, _) => channel,
     }
 }
 
-// The channel that a frame names.
-fn channel_of(frame: &Frame) -> ChannelId {
+/// The channel that a frame names; 0 where it names none.
+pub fn channel_of(frame: &Frame) -> ChannelId {
     match frame {
         Frame::Method(channel, _) | Frame::Raw(channel, _, _) => *channel,
         Frame::ProtocolHeader(_) | Frame::Heartbeat => 0,
     }
 }
 
-fn stage_name(stage: Stage) -> &'static str {
+/// What was said last of the turning points of a conversation.
+pub fn stage_name(stage: Stage) -> &'static str {
     match stage {
         Stage::HeaderSaid => "the protocol header",
         Stage::StartOkSaid => "start-ok",
@@ -77,7 +87,8 @@ fn stage_name(stage: Stage) -> &'static str {
     }
 }
 
-fn usage_name(usage: Usage) -> &'static str {
+/// How far a conversation is on a channel.
+pub fn usage_name(usage: Usage) -> &'static str {
     match usage {
         Usage::Shut => "is not open",
         Usage::InUse => "is open",
@@ -85,10 +96,10 @@ fn usage_name(usage: Usage) -> &'static str {
     }
 }
 
-// What was said of the content that may go on.
-fn show_content<W: fmt::Write>(content: Content, f: &mut fmt::Formatter<W>) -> fmt::Result {
+/// Writes what was said of the content that may go on.
+pub fn show_content<W: fmt::Write>(content: Content, f: &mut fmt::Formatter<W>) -> fmt::Result {
     match content {
-        Content::NoContent => Ok(()),
+        Content::NoContent | Content::BodyMissing(_, 0) => Ok(()),
         Content::MethodSaid(channel, class) => {
             write!(f, "; a method of class {class} on channel {channel}")
         }
@@ -119,14 +130,36 @@ fn show_said<W: fmt::Write>(finding: &Finding, f: &mut fmt::Formatter<W>) -> fmt
     show_content(content, f)
 }
 
-// Where which frame stands.
-fn show_frame<W: fmt::Write>(finding: &Finding, f: &mut fmt::Formatter<W>) -> fmt::Result {
-    let (place, number) = (finding.place, finding.number);
-    let name = frame_name(&finding.frame);
-    write!(f, "client byte {place}: frame {number} is {name}")?;
-    match channel_of(&finding.frame) {
-        0 => Ok(()),
-        channel => write!(f, " on channel {channel}"),
+// Whether a frame is of the connection, so that its channel goes without saying.
+fn is_of_connection(frame: &Frame) -> bool {
+    match frame {
+        Frame::ProtocolHeader(_) | Frame::Heartbeat => true,
+        Frame::Method(channel, method) => *channel == 0
+            && name_of(method).starts_with("connection"),
+        Frame::Raw(..) => false,
+    }
+}
+
+/// Where which frame of the client stands, as an engineer reads it.
+#[derive(Clone, Copy)]
+pub struct Standing<'a> {
+    /// Its number, counted from 0.
+    pub number: u64,
+    /// The place of its first octet.
+    pub place: u64,
+    pub frame: &'a Frame,
+}
+
+impl<'a> fmt::Display for Standing<'a> {
+    fn fmt<W: fmt::Write>(&self, f: &mut fmt::Formatter<W>) -> fmt::Result {
+        let (place, number) = (self.place, self.number);
+        write!(f, "client byte {place}: frame {number} is ")?;
+        show_kind(self.frame, f)?;
+        if is_of_connection(self.frame) {
+            return Ok(());
+        }
+        let channel = channel_of(self.frame);
+        write!(f, " on channel {channel}")
     }
 }
 
@@ -145,7 +178,7 @@ impl fmt::Display for Expected {
             Expected::ContentHeader(channel, class) => {
                 write!(
                     f,
-                    "a content header of class {class} on channel {channel} comes next, or a method"
+                    "a content header of class {class} and weight 0 on channel {channel} comes next, or a method"
                 )
             }
             Expected::Body(channel, missing) => {
@@ -162,8 +195,12 @@ impl fmt::Display for Expected {
 
 impl fmt::Display for Finding {
     fn fmt<W: fmt::Write>(&self, f: &mut fmt::Formatter<W>) -> fmt::Result {
-        show_frame(self, f)?;
-        f.write_str("\nsaid so far: ")?;
+        let standing = Standing {
+            number: self.number,
+            place: self.place,
+            frame: &self.frame,
+        };
+        write!(f, "{standing}\nsaid so far: ")?;
         show_said(self, f)?;
         let expected = self.expected();
         write!(f, "\n{expected}")

@@ -106,6 +106,13 @@ impl Double {
         told(self.heard.refusal)
     }
 
+    /// What its client said, as far as it heard that.
+    pub fn client(&self) -> &[u8]
+        ensures { result.now ≡ self.now.client }
+    {
+        &self.heard.client
+    }
+
     /// What it answered and was not sent yet.
     #[tactic(auto, using(crate::proofs::Taking::heard_answers))]
     pub fn output(&self) -> &[u8]

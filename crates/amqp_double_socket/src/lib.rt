@@ -7,4 +7,4 @@ mod serving;
 mod thread;
 
 pub use serving::{Ended, serve};
-pub use thread::{Served, Serving};
+pub use thread::{Served, Serving, serve_link};

@@ -51,8 +51,9 @@ pub fn serve<R: Read, W: Write>(
         return Ended::NoMemory;
     };
     'pieces: for _ in 0..u64::MAX {
-        if let Some(ended) = serve_piece(alloc, double, reader, writer, &mut space) {
-            return ended;
+        match serve_piece(alloc, double, reader, writer, &mut space) {
+            Some(ended) => return ended,
+            None => {}
         }
     }
     Ended::Left

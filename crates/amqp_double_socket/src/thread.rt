@@ -1,21 +1,26 @@
-//! A listener on a thread of its own.
+//! Clients of sockets, and a listener for them on a thread of its own.
 
-ghost use Rattle.std.specs.Prelude.{◌≡◌, ◌⊎◌, ◌≤◌};
+ghost use Rattle.std.specs.Prelude.{◌≡◌, ◌⊎◌, ◌≤◌, true, IfOk, Err};
+ghost use Rattle.amqp_double.specs.Doubles.{AnswersClient, fresh};
+ghost use Rattle.amqp_double.specs.Faults.{result_of};
+ghost use Rattle.amqp_double.specs.declared.refusal.DoubleFault.{DoubleFault};
+ghost use Rattle.amqp_double_socket.specs.Serving.{HasSentAll};
 
 use crate::serving::{Ended, serve};
 use amqp_double::Double;
 use amqp_settings::Configuration;
+use amqp_types::NoMemory;
 use std::alloc::Global;
 use std::io::{Read, Write};
 use std::net::{Net, OpenListener, OpenStream, SocketAddr, TcpListener, TcpStream};
 use std::thread::{JoinHandle, Threads};
 use std::{io, thread};
 
-/// A client that was served: how that ended, and the octets that were read of it.
+/// A client that was served: how that ended, and the double that served it.
 #[derive(Drop)]
 pub struct Served {
     pub ended: Ended,
-    pub heard: Vec<u8>,
+    pub double: Double,
 }
 
 /// A listener that serves clients one after another, on a thread of its own.
@@ -25,76 +30,52 @@ pub struct Serving {
     thread: JoinHandle<Vec<Served>>,
 }
 
-// A reader that keeps what was read.
-#[derive(Drop)]
-struct Keeping<S> {
-    reader: S,
-    heard: Vec<u8>,
-}
-
-impl<S: Read> Read for Keeping<S> {
-    fn read(&mut self, space: &mut [u8]) -> io::Result<usize> {
-        let count = self.reader.read(space)?;
-        self.heard.extend_from_slice(&space[..count])?;
-        Ok(count)
-    }
-}
-
-// Serves the client of a link, over which the double answers by `writer`.
-fn serve_by<S: Read, W: Write + Drop>(
+// Serves the client of a link, and lets the link go then.
+fn serve_over<S: Read + Write + OpenStream + Drop>(
     alloc: Global,
-    numbers: Configuration,
-    reader: &mut S,
-    mut writer: W,
+    double: &mut Double,
+    mut link: S,
 ) -> Ended
-    requires { (numbers.frame_max ≡ 0) ⊎ (4096 ≤ numbers.frame_max) }
+    requires answers { AnswersClient double.old }
+    requires sent { HasSentAll double.old }
+    ensures answers { AnswersClient double.new }
+    ensures closed { result ≡ Ended.Closed → double.new.closed ≡ true }
+    ensures refused { (fault : DoubleFault) → result ≡ Ended.Refused fault → Err fault ≡ result_of double.new.refusal }
 {
-    let Ok(mut double) = Double::new(alloc, numbers) else {
-        drop(writer);
-        return Ended::NoMemory;
+    let cloned = link.try_clone();
+    let Ok(mut writer) = cloned else {
+        drop(link);
+        return Ended::Failed;
     };
-    let ended = serve(alloc, &mut double, reader, &mut writer);
-    drop(double);
+    let ended = serve(alloc, double, &mut link, &mut writer);
     drop(writer);
+    drop(link);
     ended
 }
 
-// Serves the client of a link, which is let go then.
-fn serve_link<S: Read + Write + OpenStream + Drop>(
+/// Serves the client of a link by a double of its own with these numbers, of which the greatest frame is 0, which is no
+/// limit, or has at least 4,096 octets. The link is let go then.
+pub fn serve_link<S: Read + Write + OpenStream + Drop>(
     alloc: Global,
     numbers: Configuration,
     link: S,
-) -> Served
+) -> Result<Served, NoMemory>
     requires { (numbers.frame_max ≡ 0) ⊎ (4096 ≤ numbers.frame_max) }
+    ensures answers { IfOk result (λ served. AnswersClient served.double) }
+    ensures closed { IfOk result (λ served. served.ended ≡ Ended.Closed → served.double.closed ≡ true) }
+    ensures refused { IfOk result (λ served. (fault : DoubleFault) → served.ended ≡ Ended.Refused fault
+        → Err fault ≡ result_of served.double.refusal) }
 {
-    let cloned = link.try_clone();
-    let mut reader = Keeping {
-        reader: link,
-        heard: Vec::new(alloc),
+    let made = Double::new(alloc, numbers);
+    let Ok(mut double) = made else {
+        drop(link);
+        return Err(NoMemory);
     };
-    let ended = match cloned {
-        Ok(writer) => serve_by(alloc, numbers, &mut reader, writer),
-        Err(_) => Ended::Failed,
-    };
-    let Keeping { reader, heard } = reader;
-    drop(reader);
-    Served { ended, heard }
+    let ended = serve_over(alloc, &mut double, link);
+    Ok(Served { ended, double })
 }
 
-// The next client of a listener.
-fn serve_next(alloc: Global, numbers: Configuration, listener: &TcpListener) -> Served
-    requires { (numbers.frame_max ≡ 0) ⊎ (4096 ≤ numbers.frame_max) }
-{
-    match listener.accept() {
-        Ok((link, _address)) => serve_link(alloc, numbers, link),
-        Err(_) => Served {
-            ended: Ended::Failed,
-            heard: Vec::new(alloc),
-        },
-    }
-}
-
-// Serves so many clients, one after another.
+// Serves so many clients, one after another; fewer where memory was refused.
 fn serve_all(
     alloc: Global,
     numbers: Configuration,
@@ -105,7 +86,12 @@ fn serve_all(
 {
     let mut all = Vec::new(alloc);
     for _ in 0..clients {
-        let served = serve_next(alloc, numbers, listener);
+        let Ok((link, _address)) = listener.accept() else {
+            return all;
+        };
+        let Ok(served) = serve_link(alloc, numbers, link) else {
+            return all;
+        };
         if all.push(served).is_err() {
             return all;
         }
@@ -140,8 +126,8 @@ impl Serving {
         self.address
     }
 
-    /// Waits until all clients were served, and gives them in order; fewer where memory was refused. It waits as long
-    /// as no client comes.
+    /// Waits until all clients were served, and gives them in order; fewer where memory was refused, or listening
+    /// failed. It waits as long as no client comes.
     pub fn join<R: Threads>(self, rt: &R) -> Vec<Served> {
         self.thread.join(rt)
     }

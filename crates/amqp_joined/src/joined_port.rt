@@ -172,6 +172,13 @@ impl JoinedPort {
         &self.inside.plan
     }
 
+    /// What was taken, as it stands on the link.
+    pub fn link(&self) -> &[u8]
+        ensures { result.now ≡ self.now.join.taken }
+    {
+        &self.inside.taken
+    }
+
     /// How many octets were taken.
     pub fn taken(&self) -> u64
         ensures { result ≡ length self.now.join.taken }

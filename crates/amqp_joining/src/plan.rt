@@ -1,11 +1,14 @@
 //! A plan for both ends of a link.
 
-ghost use Rattle.std.specs.Prelude.{◌≡◌, ◌-◌, ◌^◌, min};
-ghost use Rattle.amqp_joining.specs.Plans.{join_plan_of, text_octets, command_turns, turns_for_all, turns_of};
+ghost use Rattle.std.specs.Prelude.{◌≡◌, ◌≤◌, ◌↔◌, ◌-◌, ◌^◌, min, IsTrue, AllByRecursion};
+ghost use Rattle.amqp_joining.specs.Plans.{join_plan_of, IsPlan, text_octets, command_turns, turns_for_all, turns_of};
 
 use amqp_session::Cmd;
 use amqp_types::{NoMemory, Payload64};
 use std::alloc::Global;
+
+/// The longest piece, in octets.
+const LONGEST_CUT: u64 = 4096;
 
 /// The turns of a plan with no commands: one for each octet that both ends say then, one for the link and
 /// one for the close.
@@ -27,6 +30,17 @@ pub struct Plan {
 }
 
 impl Plan {
+    /// Whether it can be joined by: it has a cut and a room, each cut is 1 to 4,096 and each room at least 1.
+    pub fn is_one(&self) -> bool
+        ensures { IsTrue result ↔ IsPlan (join_plan_of self.now) }
+    {
+        let (cuts, rooms) = (self.cuts.as_slice(), self.rooms.as_slice());
+        if cuts.is_empty() || rooms.is_empty() {
+            return false;
+        }
+        cuts.iter().all(|n| 1 <= *n && *n <= LONGEST_CUT) && rooms.iter().all(|n| 1 <= *n)
+    }
+
     /// How many turns are enough, or the greatest number where that is less. It takes no memory.
     pub fn turns(&self) -> u64
         ensures { result ≡ turns_of (join_plan_of self.now) }

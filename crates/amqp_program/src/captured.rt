@@ -71,8 +71,8 @@ pub enum Capture {
     Refused(u64),
 }
 
-// Which side a word names.
-fn side_of(word: &[u8]) -> Option<Side>
+/// Which side a word names.
+pub fn side_of(word: &[u8]) -> Option<Side>
     ensures { result ≡ side_named word.now }
 {
     if is(word, b"client") {
@@ -119,8 +119,8 @@ fn content_captured(alloc: Global, content: &[u8], left: u64) -> Result<CaptureL
     }
 }
 
-// What a line says, where so many zeros may still be spelled by numbers.
-fn line_captured(alloc: Global, line: &Line, left: u64) -> Result<CaptureLine, NoMemory>
+/// What a line says, where so many zeros may still be spelled by numbers.
+pub fn line_captured(alloc: Global, line: &Line, left: u64) -> Result<CaptureLine, NoMemory>
     ensures { IfOk result (λ said. said ≡ line_captured left line.now) }
 {
     if !is_within_limits(line) {

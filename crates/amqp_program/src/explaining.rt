@@ -1,19 +1,12 @@
-//! What is wrong with a capture, as an engineer reads it: three lines, the first of which has the place.
+//! What is wrong with a capture, as an engineer reads it: where, what stands there or was said before it, and what
+//! may stand there; and then all else that is known.
 
 use crate::captured::{Capture, Captured, Side, line_of_octet, read_capture};
-use amqp_check::{Verdict, check, first_illegal};
-use amqp_frame::{Read, read_frame};
+use crate::refused::why_refused;
+use amqp_check::{Broken, Verdict, check, first_illegal, last_close, other_protocol};
+use amqp_resumed::first_wrong;
 use amqp_types::NoMemory;
 use std::alloc::Global;
-
-// How many octets at a place are shown.
-const SHOWN: usize = 16;
-
-// How many octets stand before the payload of a frame: its type, its channel and its size.
-const HEAD: usize = 7;
-
-// The least octets of a frame, which ends with one octet.
-const LEAST: usize = 8;
 
 fn side_name(side: Side) -> &'static str {
     match side {
@@ -22,135 +15,172 @@ fn side_name(side: Side) -> &'static str {
     }
 }
 
-// A place of one side of a link, and the octets of that side from there on.
-#[derive(Clone, Copy)]
-struct Place<'a> {
+// Writes the line of a capture that has the octet of a side at a place.
+fn put_line(
+    out: &mut String,
+    alloc: Global,
     side: Side,
     place: u64,
-    rest: &'a [u8],
-}
-
-impl<'a> Place<'a> {
-    fn new(side: Side, octets: &'a [u8], place: u64) -> Place<'a> {
-        let rest = octets.get(place as usize..).unwrap_or(&[]);
-        Place { side, place, rest }
-    }
-}
-
-// The first two lines: a place, with its line in the capture, what is wrong there, and the first octets
-// at it.
-fn begin(alloc: Global, text: &[u8], at: Place<'_>, wrong: &str) -> Result<String, NoMemory> {
-    let mut out = String::new(alloc);
-    if let Some(line) = line_of_octet(alloc, at.side, at.place, text)? {
+    text: &[u8],
+) -> Result<(), NoMemory> {
+    if let Some(line) = line_of_octet(alloc, side, place, text)? {
         write!(out, "line {line}, ")?;
-    }
-    let name = side_name(at.side);
-    let place = at.place;
-    write!(out, "{name} byte {place}: {wrong}")?;
-    out.push_str("\noctets:")?;
-    for octet in at.rest.iter().take(SHOWN) {
-        write!(out, " {octet:02x}")?;
-    }
-    out.push_str("\n")?;
-    Ok(out)
-}
-
-// Why no frame stands at the front of these octets.
-fn put_cause(out: &mut String, alloc: Global, octets: &[u8]) -> Result<(), NoMemory> {
-    match read_frame(alloc, &octets, u32::MAX) {
-        Read::NoMemory => return Err(NoMemory),
-        Read::TooLarge(size) => write!(out, "no frame has as many octets as {size}")?,
-        Read::BadHeartbeat(channel) => {
-            write!(out, "a heartbeat stands on channel 0, and not on {channel}")?
-        }
-        other => {
-            drop(other);
-            out.push_str(
-                "a frame has its type, its channel, its size, so many octets as its type may have, and ce",
-            )?
-        }
     }
     Ok(())
 }
 
-// How many octets a frame has, as its head says, where that is there.
-fn whole_len(octets: &[u8]) -> Option<u64> {
-    let [_, _, _, a, b, c, d, ..] = octets else {
-        return None;
-    };
-    let size = u32::from_be_bytes([*a, *b, *c, *d]);
-    Some(size as u64 + LEAST as u64)
-}
-
-// What a capture has at a place where no frame stands.
-fn explain_bad(alloc: Global, text: &[u8], at: Place<'_>) -> Result<String, NoMemory> {
-    let mut out = begin(alloc, text, at, "no frame stands here")?;
-    put_cause(&mut out, alloc, at.rest)?;
-    Ok(out)
-}
-
-// What a capture has at a place where a frame is cut.
-fn explain_cut(alloc: Global, text: &[u8], at: Place<'_>) -> Result<String, NoMemory> {
-    let mut out = begin(alloc, text, at, "a frame begins here, and is not all there")?;
-    let there = at.rest.len();
-    match whole_len(at.rest) {
-        Some(whole) => write!(out, "{there} of its {whole} octets are there")?,
-        None => write!(
-            out,
-            "{there} octets are there, and its size stands before octet {HEAD}"
-        )?,
-    }
-    Ok(out)
-}
-
-// The first frame of the client that it may not say.
-fn explain_illegal(alloc: Global, text: &[u8], client: &[u8]) -> Result<String, NoMemory> {
+// What a capture has at a place of a side where no whole frame stands.
+fn explain_broken(
+    alloc: Global,
+    text: &[u8],
+    side: Side,
+    octets: &[u8],
+    place: u64,
+    is_cut: bool,
+) -> Result<String, NoMemory> {
     let mut out = String::new(alloc);
-    if let Some(finding) = first_illegal(alloc, client)? {
-        if let Some(line) = line_of_octet(alloc, Side::Client, finding.place, text)? {
-            write!(out, "line {line}, ")?;
+    put_line(&mut out, alloc, side, place, text)?;
+    let rest = octets.get(place as usize..).unwrap_or(&[]);
+    let broken = Broken {
+        side: side_name(side),
+        place,
+        rest,
+        is_cut,
+    };
+    write!(out, "{broken}")?;
+    Ok(out)
+}
+
+// Writes what a side looks like that begins with these octets, where that is no AMQP 0-9-1.
+fn put_protocol(out: &mut String, place: u64, octets: &[u8]) -> Result<(), NoMemory> {
+    match other_protocol(octets) {
+        Some(looks) if place == 0 => {
+            out.push_str("\n")?;
+            Ok(out.push_str(looks)?)
         }
-        write!(out, "{finding}")?;
-        drop(finding);
+        _ => Ok(()),
+    }
+}
+
+// Writes the first frame of the client that it may not say, and whether there is one.
+fn put_illegal(
+    out: &mut String,
+    alloc: Global,
+    text: &[u8],
+    client: &[u8],
+) -> Result<bool, NoMemory> {
+    let Some(finding) = first_illegal(alloc, client)? else {
+        return Ok(false);
+    };
+    let place = finding.place;
+    let shown = format!(in alloc; "{finding}");
+    drop(finding);
+    put_line(out, alloc, Side::Client, place, text)?;
+    out.push_str(&shown?)?;
+    put_protocol(out, place, client)?;
+    if place == 0 {
+        put_late(out, alloc, text, client)?;
+    }
+    Ok(true)
+}
+
+// Writes what the client's frames are if a conversation began before them, where no protocol header begins them.
+fn put_late(out: &mut String, alloc: Global, text: &[u8], client: &[u8]) -> Result<(), NoMemory> {
+    if client.starts_with(b"AMQP") {
+        return Ok(());
+    }
+    let Some(finding) = first_wrong(alloc, client)? else {
+        out.push_str(
+            "\nif it began before, its whole frames are the rest of a legal conversation",
+        )?;
+        return Ok(());
+    };
+    let place = finding.place;
+    let shown = format!(in alloc; "{finding}");
+    drop(finding);
+    out.push_str("\nif it began before:\n")?;
+    put_line(out, alloc, Side::Client, place, text)?;
+    Ok(out.push_str(&shown?)?)
+}
+
+// Whether the client's side has a whole frame, where the verdict is that a side ends in what is none.
+fn has_frames(verdict: Verdict, client: &[u8]) -> bool {
+    match verdict {
+        Verdict::BadClient(place) | Verdict::CutClient(place) => place != 0,
+        _ => !client.is_empty(),
+    }
+}
+
+// Writes what the client's whole frames are, where a side ends in what is none.
+fn put_rest(out: &mut String, alloc: Global, text: &[u8], client: &[u8]) -> Result<(), NoMemory> {
+    out.push_str("\n")?;
+    if !put_illegal(out, alloc, text, client)? {
+        out.push_str("the client's whole frames are a legal conversation")?;
+    }
+    Ok(())
+}
+
+// What is wrong with both sides of a link; nothing, where nothing is.
+fn explain_verdict(
+    alloc: Global,
+    text: &[u8],
+    sides: &Captured,
+    verdict: Verdict,
+) -> Result<String, NoMemory> {
+    let (client, server) = (&sides.client, &sides.server);
+    let mut out = match verdict {
+        Verdict::Legal(..) => return Ok(String::new(alloc)),
+        Verdict::Illegal(_) => {
+            let mut out = String::new(alloc);
+            put_illegal(&mut out, alloc, text, client)?;
+            return Ok(out);
+        }
+        Verdict::BadClient(at) => explain_broken(alloc, text, Side::Client, client, at, false)?,
+        Verdict::CutClient(at) => explain_broken(alloc, text, Side::Client, client, at, true)?,
+        Verdict::BadServer(at) => explain_broken(alloc, text, Side::Server, server, at, false)?,
+        Verdict::CutServer(at) => explain_broken(alloc, text, Side::Server, server, at, true)?,
+    };
+    if has_frames(verdict, client) {
+        put_rest(&mut out, alloc, text, client)?;
     }
     Ok(out)
 }
 
-// What is wrong with both sides of a link, where something is.
-fn explain_sides(alloc: Global, text: &[u8], sides: &Captured) -> Result<Option<String>, NoMemory> {
-    let (client, server) = (&sides.client, &sides.server);
-    Ok(match check(alloc, client, server)? {
-        Verdict::Legal(..) => None,
-        Verdict::BadClient(at) => Some(explain_bad(
-            alloc,
-            text,
-            Place::new(Side::Client, client, at),
-        )?),
-        Verdict::CutClient(at) => Some(explain_cut(
-            alloc,
-            text,
-            Place::new(Side::Client, client, at),
-        )?),
-        Verdict::BadServer(at) => Some(explain_bad(
-            alloc,
-            text,
-            Place::new(Side::Server, server, at),
-        )?),
-        Verdict::CutServer(at) => Some(explain_cut(
-            alloc,
-            text,
-            Place::new(Side::Server, server, at),
-        )?),
-        Verdict::Illegal(_) => Some(explain_illegal(alloc, text, client)?),
-    })
+// Writes how the server closed last, where it did so with an error.
+fn put_close(out: &mut String, alloc: Global, text: &[u8], server: &[u8]) -> Result<(), NoMemory> {
+    let Some(closing) = last_close(alloc, server)? else {
+        return Ok(());
+    };
+    let (place, is_error) = (closing.place, closing.is_error());
+    let shown = format!(in alloc; "{closing}");
+    drop(closing);
+    if !is_error {
+        return Ok(());
+    }
+    if !out.is_empty() {
+        out.push_str("\n")?;
+    }
+    put_line(out, alloc, Side::Server, place, text)?;
+    out.push_str(&shown?)?;
+    Ok(())
 }
 
-/// What is wrong with the capture that a text is, in three lines: where, what stands there or was said
-/// before it, and what may stand there. Nothing where the verdict on it is that it is legal, or where
-/// one of its lines is refused.
+// What is to be said of both sides of a link.
+fn explain_sides(alloc: Global, text: &[u8], sides: &Captured) -> Result<Option<String>, NoMemory> {
+    let verdict = check(alloc, &sides.client, &sides.server)?;
+    let mut out = explain_verdict(alloc, text, sides, verdict)?;
+    put_close(&mut out, alloc, text, &sides.server)?;
+    Ok(if out.is_empty() { None } else { Some(out) })
+}
+
+/// What is to be said of the capture that a text is. Where the verdict on it is another than that it is legal: in
+/// three lines where, what stands there or was said before it, and what may stand there; then what else it looks
+/// like, what it is if it began before the capture, whether the client's whole frames are legal, and how the server
+/// closed last, where it did so with an error. Where one of its lines is refused: which and why. Else nothing, but
+/// for that close.
 pub fn explain(alloc: Global, text: &[u8]) -> Result<Option<String>, NoMemory> {
     match read_capture(alloc, text)? {
-        Capture::Refused(_) => Ok(None),
+        Capture::Refused(number) => why_refused(alloc, text, number),
         Capture::Sides(sides) => {
             let told = explain_sides(alloc, text, &sides);
             drop(sides);

@@ -11,6 +11,7 @@ mod asked;
 mod captured;
 mod checking;
 mod explaining;
+mod refused;
 pub mod top;
 
 pub use asked::{Asked, asked_by};

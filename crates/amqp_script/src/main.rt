@@ -8,7 +8,7 @@ use amqp_doubled::top_doubled;
 use amqp_engine::MemoryPort;
 use amqp_live::top_live;
 use amqp_program::{Asked, asked_by, explain};
-use amqp_replay::status::{FAILED, NO_MEMORY, REFUSED, SINK_FAILED, SOURCE_FAILED, USAGE};
+use amqp_replay::status::{CLOSED, FAILED, NO_MEMORY, REFUSED, SINK_FAILED, SOURCE_FAILED, USAGE};
 use amqp_replay::{Reading, Writing, ended_at};
 use amqp_session::{DefaultTokenProvider, Refusal, TokenAuthProvider};
 use amqp_types::{LongString, NoMemory, Text};
@@ -61,7 +61,7 @@ enum Said {
     Nothing,
     /// The line of a script at which its session ended.
     Line(u64),
-    /// What is wrong with a capture.
+    /// What is to be said of a capture.
     Capture(String),
 }
 
@@ -79,10 +79,12 @@ fn explained(
             Some(line) => Said::Line(line),
             None => Said::Nothing,
         }),
-        Some(Asked::Check) if status == FAILED => Ok(match explain(alloc, text)? {
-            Some(lines) => Said::Capture(lines),
-            None => Said::Nothing,
-        }),
+        Some(Asked::Check) if matches!(status, CLOSED | FAILED | REFUSED) => Ok(
+            match explain(alloc, text)? {
+                Some(lines) => Said::Capture(lines),
+                None => Said::Nothing,
+            },
+        ),
         _ => Ok(Said::Nothing),
     }
 }
@@ -122,6 +124,10 @@ fn note(rt: &HostRuntime, status: u8, said: Said) -> io::Result<()> {
         (USAGE, _) => {
             rt.eprintln(USAGE_TEXT)?;
             rt.eprintln(PAGE_TEXT)
+        }
+        (REFUSED, Said::Capture(lines)) => {
+            rt.eprintln(&lines)?;
+            rt.eprintln(REFUSED_TEXT)
         }
         (REFUSED, _) => rt.eprintln(REFUSED_TEXT),
         (SOURCE_FAILED, _) => rt.eprintln("standard input failed"),

@@ -193,7 +193,7 @@ a conversation begins with the protocol header of AMQP 0-9-1",
     ),
     (
         &[HEADER, START_OK, TUNE_OK, OPEN, METHOD_1],
-        "client byte 359: frame 4 is a method of another class on channel 1
+        "client byte 359: frame 4 is basic.publish (60.40) on channel 1
 said so far: open; channel 1 is not open
 a heartbeat comes next, or a method that its channel allows",
     ),

@@ -160,7 +160,7 @@ fn is_explained(alloc: Global, text: &[u8], wanted: &str) -> Result<bool, Fail> 
 }
 
 // Captures, and what is said of each.
-const EXPLAINED: [(&str, &str); 5] = [
+const EXPLAINED: [(&str, &str); 6] = [
     ("", ""),
     (
         "client 414d51500000\n\nclient 0901\nclient 08\nclient 000000000000ce\n",
@@ -172,7 +172,7 @@ const EXPLAINED: [(&str, &str); 5] = [
         "server 0100000000000400\nserver 0a0033cf\n",
         "line 1, server byte 0: no frame stands here\n\
          octets: 01 00 00 00 00 00 04 00 0a 00 33 cf\n\
-         a frame has its type, its channel, its size, so many octets as its type may have, and ce",
+         at byte 11 stands cf, and the frame ends there, with ce",
     ),
     (
         "server 08000100000000ce\n",
@@ -184,7 +184,12 @@ const EXPLAINED: [(&str, &str); 5] = [
         "client 414d515000000901010000000001330a\n",
         "line 1, client byte 8: a frame begins here, and is not all there\n\
          octets: 01 00 00 00 00 01 33 0a\n\
-         8 of its 315 octets are there",
+         8 of its 315 octets are there\n\
+         the client's whole frames are a legal conversation",
+    ),
+    (
+        "client 41\n# a comment\nserver -\n",
+        "line 3: one octet at least is wanted",
     ),
 ];
 

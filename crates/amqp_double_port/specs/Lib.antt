@@ -1,0 +1,2 @@
+-- What the words behind `double` ask for.
+pub mod Asked

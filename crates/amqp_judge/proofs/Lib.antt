@@ -1,0 +1,2 @@
+-- One piece and one frame more (`side`).
+pub mod Pieces
