@@ -1,6 +1,7 @@
 //! A plan for both ends of a link.
 
-ghost use Rattle.std.specs.Prelude.{◌≡◌, ◌≤◌, ◌↔◌, ◌-◌, ◌^◌, min, IsTrue, AllByRecursion};
+ghost use Rattle.std.specs.Prelude.{◌≡◌, ◌≤◌, ◌↔◌, ◌-◌, ◌^◌, min, IsTrue};
+ghost use Rattle.std.specs.List.{AllByRecursion};
 ghost use Rattle.amqp_joining.specs.Plans.{join_plan_of, IsPlan, text_octets, command_turns, turns_for_all, turns_of};
 
 use amqp_session::Cmd;
