@@ -13,11 +13,11 @@ use lapin_connection::{
     Channel, Connection, ConnectionBuilder, EventsListener, Gives, MioSpawner, Pass, Pending,
 };
 use std::alloc::{AllocGlobal, Global};
-use std::net::Net;
+use std::net::{Net, TcpListener, TcpStream};
 use std::random::RandomSource;
 use std::sync::Wait;
 use std::thread::Threads;
-use std::time::Clock;
+use std::time::{Clock, Duration};
 
 /// For how many seconds a broker may say nothing while a connection, or a channel, opens or closes.
 pub const LIMIT: u64 = 10;
@@ -81,23 +81,16 @@ fn frames_of(frames: Result<Vec<Handed>>) -> First {
 }
 
 /// Waits for an answer for so many seconds, and says what the broker did not do in time where it does not come.
-pub fn within<'x, T: Gives, R: Wait + RandomSource + AllocGlobal>(
-    rt: &'x R,
-    pending: &'x Pending<T>,
-    own: &mut Own,
+pub fn within<T: Gives, R: Wait + Clock>(
+    rt: &R,
+    pending: &Pending<T>,
     seconds: u64,
     what: &'static str,
 ) -> std::result::Result<T, Stop> {
-    for _ in 0..seconds {
-        match block_on(rt, select(pending.answered(rt), own.seconds.recv())) {
-            Ok(Either::Left((Ok(answer), _second))) => return Ok(answer?),
-            Ok(Either::Right((_second, _answer))) => {}
-            Ok(Either::Left((Err(_), _))) | Err(_) => return Err(Stop::Failed(
-                ErrorKind::NoMemory.into(),
-            )),
-        }
+    match pending.wait_for(rt, Duration::from_secs(seconds)) {
+        Some(answer) => Ok(answer?),
+        None => Err(Stop::Silent(what, seconds)),
     }
-    Err(Stop::Silent(what, seconds))
 }
 
 // The connection, the channel, who commands, and the events.
@@ -108,19 +101,41 @@ struct Opened {
     events: EventsListener,
 }
 
+// Connects to an address over a socket.
+fn connected<
+    R: Threads
+        + Wait
+        + Net<Listener = TcpListener, Stream = TcpStream>
+        + Clock
+        + Copy
+        + Drop
+        + Send
+        + 'static,
+>(rt: R, alloc: Global, uri: AMQPUri) -> Result<Connection> {
+    let options = match ConnectionProperties::new(alloc) {
+        Ok(options) => options,
+        Err(refused) => {
+            drop(uri);
+            return Err(refused.into());
+        }
+    };
+    let mut builder = ConnectionBuilder::new_with_runtime(MioSpawner::new(rt, alloc))
+        .with_uri(uri)
+        .with_properties(options);
+    let connected = builder.connect(rt, alloc);
+    drop(builder);
+    connected
+}
+
 // Waits until a connection is open, and opens a channel.
-fn open_on<R: Wait + RandomSource + AllocGlobal>(
-    rt: &R,
-    connection: &Connection,
-    own: &mut Own,
-) -> std::result::Result<Opened, Stop> {
+fn open_on<R: Wait + Clock>(rt: &R, connection: &Connection) -> std::result::Result<Opened, Stop> {
     let opened = connection.opened()?;
-    within(rt, &opened, own, LIMIT, "open the connection")?;
+    within(rt, &opened, LIMIT, "open the connection")?;
     drop(opened);
     let mut pass = connection.pass(rt)?;
     let events = connection.events_listener(rt, &mut pass)?;
     let opening = connection.create_channel(rt, &mut pass)?;
-    let channel = within(rt, &opening, own, LIMIT, "open a channel")?;
+    let channel = within(rt, &opening, LIMIT, "open a channel")?;
     Ok(Opened {
         channel,
         pass,
@@ -146,16 +161,19 @@ impl Client {
         own: &mut Own,
     ) -> std::result::Result<Client, Stop>
     where
-        R: Threads + Wait + Net + Clock + RandomSource + AllocGlobal + Copy + Drop + Send + 'static,
+        R: Threads
+            + Wait
+            + Net<Listener = TcpListener, Stream = TcpStream>
+            + Clock
+            + RandomSource
+            + AllocGlobal
+            + Copy
+            + Drop
+            + Send
+            + 'static,
     {
-        let options = ConnectionProperties::new(alloc)?;
-        let mut builder = ConnectionBuilder::new_with_runtime(MioSpawner::new(rt, alloc))
-            .with_uri(uri)
-            .with_properties(options);
-        let connected = builder.connect(rt, alloc);
-        drop(builder);
-        let connection = connected?;
-        match open_on(&rt, &connection, own) {
+        let connection = connected(rt, alloc, uri)?;
+        match open_on(&rt, &connection) {
             Ok(
                 Opened {
                     channel,
@@ -313,7 +331,7 @@ impl Client {
 
     /// Closes the connection, once what was sent has gone out or two seconds passed, and waits for that for ten
     /// seconds. Where the server answered, it has read what was sent before. Frames that come meanwhile are let go.
-    pub fn close<R: Wait + RandomSource + AllocGlobal>(
+    pub fn close<R: Wait + Clock + RandomSource + AllocGlobal>(
         self,
         rt: &R,
         alloc: Global,

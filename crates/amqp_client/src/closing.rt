@@ -10,6 +10,7 @@ use lapin_connection::{Channel, Pending};
 use std::alloc::AllocGlobal;
 use std::random::RandomSource;
 use std::sync::Wait;
+use std::time::Clock;
 
 // Whether frames came. They are let go.
 fn have_come(frames: Result<Vec<Handed>>) -> bool {
@@ -46,7 +47,7 @@ pub fn let_out<'x, R: Wait + RandomSource + AllocGlobal>(
 }
 
 /// Waits for ten seconds until a connection is closed. Frames that come on its channel meanwhile are let go.
-pub fn closed<'x, R: Wait + RandomSource + AllocGlobal>(
+pub fn closed<'x, R: Wait + Clock + RandomSource + AllocGlobal>(
     rt: &'x R,
     closing: &'x Pending<()>,
     channel: &'x Channel,
@@ -61,7 +62,7 @@ pub fn closed<'x, R: Wait + RandomSource + AllocGlobal>(
             Ok(Either::Right((Either::Left(_second), _))) => left = left.saturating_sub(1),
             Ok(Either::Right((Either::Right((frames, _)), _))) => {
                 if !have_come(frames) {
-                    return within(rt, closing, own, left, what);
+                    return within(rt, closing, left, what);
                 }
             }
             Ok(Either::Left((Err(_), _))) | Err(_) => return Err(Stop::Failed(

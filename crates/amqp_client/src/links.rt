@@ -7,7 +7,7 @@ use crate::words::address;
 use amqp_session::Error;
 use std::alloc::{AllocGlobal, Global};
 use std::io::Eprint;
-use std::net::Net;
+use std::net::{Net, TcpListener, TcpStream};
 use std::random::RandomSource;
 use std::sync::Wait;
 use std::thread::Threads;
@@ -51,7 +51,16 @@ impl Links<'_> {
     // One link.
     fn one<R>(&self, rt: R, alloc: Global, own: &mut Own) -> Result<Client, Stop>
     where
-        R: Threads + Wait + Net + Clock + RandomSource + AllocGlobal + Copy + Drop + Send + 'static,
+        R: Threads
+            + Wait
+            + Net<Listener = TcpListener, Stream = TcpStream>
+            + Clock
+            + RandomSource
+            + AllocGlobal
+            + Copy
+            + Drop
+            + Send
+            + 'static,
     {
         let uri = address(alloc, self.uri)?;
         Client::open(rt, alloc, uri, own)
@@ -68,7 +77,7 @@ impl Links<'_> {
     where
         R: Threads
             + Wait
-            + Net
+            + Net<Listener = TcpListener, Stream = TcpStream>
             + Clock
             + Eprint
             + RandomSource
@@ -109,7 +118,7 @@ impl Links<'_> {
     where
         R: Threads
             + Wait
-            + Net
+            + Net<Listener = TcpListener, Stream = TcpStream>
             + Clock
             + Eprint
             + RandomSource

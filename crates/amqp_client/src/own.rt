@@ -5,7 +5,7 @@ use futures::SinkExt;
 use futures::channel::mpsc::{self, Receiver, Sender};
 use futures::executor::block_on;
 use std::alloc::{AllocGlobal, Global};
-use std::io::{self, BufRead, BufReader, Input};
+use std::io::{self, BufRead, BufReader, Input, StdinLock};
 use std::random::RandomSource;
 use std::sync::Wait;
 use std::thread;
@@ -70,7 +70,7 @@ fn told_by<B: BufRead>(alloc: Global, input: &mut B) -> Told {
 }
 
 // Tells what standard input has, until its end, or until nobody hears it.
-fn tell_input<R: Wait + Input + RandomSource + AllocGlobal>(
+fn tell_input<R: Wait + Input<Reader = StdinLock<'static>> + RandomSource + AllocGlobal>(
     rt: &R,
     alloc: Global,
     told: Sender<Told>,
@@ -109,7 +109,15 @@ impl Own {
 
     /// The same, which tells standard input too.
     pub fn with_input<
-        R: Threads + Wait + Input + RandomSource + AllocGlobal + Copy + Drop + Send + 'static,
+        R: Threads
+            + Wait
+            + Input<Reader = StdinLock<'static>>
+            + RandomSource
+            + AllocGlobal
+            + Copy
+            + Drop
+            + Send
+            + 'static,
     >(rt: R, alloc: Global) -> Result<Own, NoMemory> {
         let Own { seconds, input: _ } = Own::seconds(rt, alloc)?;
         let (sender, input) = mpsc::channel(alloc, AHEAD)?;
