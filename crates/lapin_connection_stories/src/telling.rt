@@ -212,7 +212,7 @@ fn settled<R: Wait>(rt: &R, connection: &Connection) -> std::result::Result<u64,
     }
 }
 
-// Says whether the journal began anew again and again, so that few entries are left of many, or never.
+// Says whether the journal began anew, so that few entries are left of many, or never.
 fn say_settled<R: Wait>(rt: &R, connection: &Connection, hand: &mut Hand) -> Done {
     let journal = journal(rt, connection)?;
     let kept = journal.len();
