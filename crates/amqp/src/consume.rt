@@ -10,7 +10,7 @@ use amqp_tools::{
 use amqp_types::{NoMemory, Text};
 use std::alloc::{AllocGlobal, Global};
 use std::io::{self, BufWriter, Eprint, Print};
-use std::net::Net;
+use std::net::{Net, TcpListener, TcpStream};
 use std::random::RandomSource;
 use std::sync::Wait;
 use std::thread::Threads;
@@ -93,7 +93,7 @@ pub fn run<R>(rt: R, alloc: Global, words: &[Text]) -> Result<(), Stop>
 where
     R: Threads
         + Wait
-        + Net
+        + Net<Listener = TcpListener, Stream = TcpStream>
         + Clock
         + Print
         + Eprint
@@ -127,6 +127,6 @@ where
     };
     let ended = consumer.consume_all(&rt, &mut own, &mut out);
     drop(out);
-    consumer.close(&rt, &mut own);
+    consumer.close(&rt);
     ended
 }

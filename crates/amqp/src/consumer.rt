@@ -15,7 +15,7 @@ use amqp_types::{FieldTable, ShortString, Text};
 use lapin_connection::Pending;
 use std::alloc::{AllocGlobal, Global};
 use std::io::Eprint;
-use std::net::Net;
+use std::net::{Net, TcpListener, TcpStream};
 use std::random::RandomSource;
 use std::sync::Wait;
 use std::thread::Threads;
@@ -131,7 +131,7 @@ impl<'a> Consumer<'a> {
     where
         R: Threads
             + Wait
-            + Net
+            + Net<Listener = TcpListener, Stream = TcpStream>
             + Clock
             + Eprint
             + RandomSource
@@ -146,7 +146,7 @@ impl<'a> Consumer<'a> {
         }
         self.ask(rt)?;
         for _ in rt.forever() {
-            self.finish(rt, own)?;
+            self.finish(rt)?;
             if self.taking.is_done() {
                 return Ok(());
             }
@@ -160,7 +160,7 @@ impl<'a> Consumer<'a> {
     where
         R: Threads
             + Wait
-            + Net
+            + Net<Listener = TcpListener, Stream = TcpStream>
             + Clock
             + Eprint
             + RandomSource
@@ -214,7 +214,7 @@ impl<'a> Consumer<'a> {
     where
         R: Threads
             + Wait
-            + Net
+            + Net<Listener = TcpListener, Stream = TcpStream>
             + Clock
             + Eprint
             + RandomSource
@@ -324,7 +324,7 @@ impl<'a> Consumer<'a> {
     }
 
     /// Says how far it came, and closes the connection, however that ends: what is counted is acknowledged.
-    pub fn close<R: Wait + Eprint + RandomSource + AllocGlobal>(self, rt: &R, own: &mut Own) {
+    pub fn close<R: Wait + Clock + Eprint>(self, rt: &R) {
         let consumer = self;
         consumer.tell(rt);
         let Consumer {
@@ -337,7 +337,7 @@ impl<'a> Consumer<'a> {
         } = consumer;
         drop(wanted);
         drop(taking);
-        drop(client.close(rt, alloc, own));
+        drop(client.close(rt, alloc));
     }
 }
 

@@ -34,8 +34,8 @@ use amqp_tools::status::{DONE, NOT_TAKEN, SINK_FAILED};
 use amqp_tools::{Job, job_of, wants_help};
 use amqp_types::Text;
 use std::alloc::{AllocGlobal, Global};
-use std::io::{Eprint, Input, Print};
-use std::net::Net;
+use std::io::{Eprint, Input, Print, StdinLock};
+use std::net::{Net, TcpListener, TcpStream};
 use std::process::ExitCode;
 use std::random::RandomSource;
 use std::rt::Files;
@@ -66,10 +66,10 @@ fn published<R>(rt: R, alloc: Global, words: &[Text]) -> u8
 where
     R: Threads
         + Wait
-        + Net
+        + Net<Listener = TcpListener, Stream = TcpStream>
         + Clock
         + Files
-        + Input
+        + Input<Reader = StdinLock<'static>>
         + Print
         + Eprint
         + RandomSource
@@ -94,7 +94,7 @@ fn consumed<R>(rt: R, alloc: Global, words: &[Text]) -> u8
 where
     R: Threads
         + Wait
-        + Net
+        + Net<Listener = TcpListener, Stream = TcpStream>
         + Clock
         + Print
         + Eprint

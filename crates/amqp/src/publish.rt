@@ -10,8 +10,8 @@ use amqp_client::{Links, Own, Stop, short};
 use amqp_tools::{Bodies, Given, Opt, Publishing, are_of, has, publishing_of, value_of, words_of};
 use amqp_types::Text;
 use std::alloc::{AllocGlobal, Global};
-use std::io::{Eprint, Input};
-use std::net::Net;
+use std::io::{Eprint, Input, StdinLock};
+use std::net::{Net, TcpListener, TcpStream};
 use std::random::RandomSource;
 use std::rt::Files;
 use std::sync::Wait;
@@ -90,10 +90,10 @@ pub fn run<R>(rt: R, alloc: Global, words: &[Text]) -> Result<bool, Stop>
 where
     R: Threads
         + Wait
-        + Net
+        + Net<Listener = TcpListener, Stream = TcpStream>
         + Clock
         + Files
-        + Input
+        + Input<Reader = StdinLock<'static>>
         + Eprint
         + RandomSource
         + AllocGlobal
@@ -125,7 +125,7 @@ where
         Err(stop) => return Err(stop),
     };
     let published = publisher.publish_all(&rt, &mut own, &mut bodies);
-    let closed = publisher.close(&rt, &mut own);
+    let closed = publisher.close(&rt);
     published?;
     closed
 }

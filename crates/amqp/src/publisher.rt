@@ -12,7 +12,7 @@ use amqp_tools::{Bodies, Confirms, Open, Part};
 use amqp_types::{Payload, ShortString};
 use std::alloc::{AllocGlobal, Global};
 use std::io::{Eprint, Write};
-use std::net::Net;
+use std::net::{Net, TcpListener, TcpStream};
 use std::random::RandomSource;
 use std::sync::Wait;
 use std::thread::Threads;
@@ -126,7 +126,7 @@ impl<'a, F: Write + Drop> Publisher<'a, F> {
     where
         R: Threads
             + Wait
-            + Net
+            + Net<Listener = TcpListener, Stream = TcpStream>
             + Clock
             + Eprint
             + RandomSource
@@ -221,7 +221,7 @@ impl<'a, F: Write + Drop> Publisher<'a, F> {
     where
         R: Threads
             + Wait
-            + Net
+            + Net<Listener = TcpListener, Stream = TcpStream>
             + Clock
             + Eprint
             + RandomSource
@@ -273,7 +273,7 @@ impl<'a, F: Write + Drop> Publisher<'a, F> {
     where
         R: Threads
             + Wait
-            + Net
+            + Net<Listener = TcpListener, Stream = TcpStream>
             + Clock
             + Eprint
             + RandomSource
@@ -320,11 +320,7 @@ impl<'a, F: Write + Drop> Publisher<'a, F> {
 
     /// Says how far it came, and closes the connection, however that ends: what was confirmed stays so. Whether
     /// the broker took each message.
-    pub fn close<R: Wait + Eprint + RandomSource + AllocGlobal>(
-        self,
-        rt: &R,
-        own: &mut Own,
-    ) -> Result<bool, Stop> {
+    pub fn close<R: Wait + Clock + Eprint>(self, rt: &R) -> Result<bool, Stop> {
         let mut publisher = self;
         let reported = publisher.report_open();
         if !publisher.target.is_quiet && publisher.told != Some(publisher.counts) {
@@ -343,7 +339,7 @@ impl<'a, F: Write + Drop> Publisher<'a, F> {
         drop(target);
         drop(report);
         drop(confirms);
-        drop(client.close(rt, alloc, own));
+        drop(client.close(rt, alloc));
         reported?;
         Ok(counts.confirmed == counts.published && counts.returned == 0)
     }

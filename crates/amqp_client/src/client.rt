@@ -331,19 +331,18 @@ impl Client {
 
     /// Closes the connection, once what was sent has gone out or two seconds passed, and waits for that for ten
     /// seconds. Where the server answered, it has read what was sent before. Frames that come meanwhile are let go.
-    pub fn close<R: Wait + Clock + RandomSource + AllocGlobal>(
+    pub fn close<R: Wait + Clock>(
         self,
         rt: &R,
         alloc: Global,
-        own: &mut Own,
     ) -> std::result::Result<(), Stop> {
         let mut client = self;
         let Ok(text) = ShortString::new(alloc, b"OK") else {
             return Err(Stop::Failed(ErrorKind::NoMemory.into()));
         };
-        let_out(rt, &client.channel, own);
+        let_out(rt, &client.channel);
         match client.connection.close(rt, &mut client.pass, 200, text) {
-            Ok(closing) => closed(rt, &closing, &client.channel, own),
+            Ok(closing) => closed(rt, &closing, &client.channel),
             Err(error) => Err(Stop::Failed(error)),
         }
     }

@@ -1,77 +1,47 @@
 //! What is waited for before a connection is closed, and until it is.
 
-use crate::client::{LIMIT, within};
-use crate::own::Own;
+use crate::client::LIMIT;
 use crate::stop::Stop;
-use amqp_session::{ErrorKind, Handed, Result};
-use futures::executor::block_on;
-use futures::future::{Either, select};
 use lapin_connection::{Channel, Pending};
-use std::alloc::AllocGlobal;
-use std::random::RandomSource;
 use std::sync::Wait;
-use std::time::Clock;
+use std::time::{Clock, Duration};
 
-// Whether frames came. They are let go.
-fn have_come(frames: Result<Vec<Handed>>) -> bool {
-    match frames {
-        Ok(frames) => !frames.is_empty(),
-        Err(error) => {
-            drop(error);
-            false
-        }
+/// For how many milliseconds frames that come may lie here before they are let go.
+const PART: u64 = 50;
+
+// Lets the frames go that came on a channel.
+fn let_go<R: Wait>(rt: &R, channel: &Channel) {
+    match channel.take_frames(rt) {
+        Ok(frames) => drop(frames),
+        Err(refused) => drop(refused),
     }
 }
 
 /// Waits until what was sent on a channel has gone out, two seconds passed, or the channel is gone. Frames that come
 /// meanwhile are let go.
-pub fn let_out<'x, R: Wait + RandomSource + AllocGlobal>(
-    rt: &'x R,
-    channel: &'x Channel,
-    own: &mut Own,
-) {
-    let mut left = 2;
-    for _ in rt.forever() {
-        let others = select(own.seconds.recv(), channel.next_frames(rt));
-        match block_on(rt, select(channel.until_sent(rt), others)) {
-            Ok(Either::Right((Either::Left(_second), _))) if left > 1 => left = 1,
-            Ok(Either::Right((Either::Right((frames, _)), _))) => {
-                if !have_come(frames) {
-                    return;
-                }
-            }
-            Ok(_) | Err(_) => return,
+pub fn let_out<R: Wait + Clock>(rt: &R, channel: &Channel) {
+    for _ in 0..2_000 / PART {
+        let sent = channel.wait_until_sent_for(rt, Duration::from_millis(PART));
+        if sent.is_some() {
+            drop(sent);
+            return;
         }
+        drop(sent);
+        let_go(rt, channel);
     }
-    unreachable!()
 }
 
 /// Waits for ten seconds until a connection is closed. Frames that come on its channel meanwhile are let go.
-pub fn closed<'x, R: Wait + Clock + RandomSource + AllocGlobal>(
-    rt: &'x R,
-    closing: &'x Pending<()>,
-    channel: &'x Channel,
-    own: &mut Own,
-) -> std::result::Result<(), Stop> {
-    let what = "close the connection";
-    let mut left = LIMIT;
-    for _ in rt.forever() {
-        let others = select(own.seconds.recv(), channel.next_frames(rt));
-        match block_on(rt, select(closing.answered(rt), others)) {
-            Ok(Either::Left((Ok(answer), _))) => return Ok(answer?),
-            Ok(Either::Right((Either::Left(_second), _))) => left = left.saturating_sub(1),
-            Ok(Either::Right((Either::Right((frames, _)), _))) => {
-                if !have_come(frames) {
-                    return within(rt, closing, left, what);
-                }
-            }
-            Ok(Either::Left((Err(_), _))) | Err(_) => return Err(Stop::Failed(
-                ErrorKind::NoMemory.into(),
-            )),
+pub fn closed<R: Wait + Clock>(
+    rt: &R,
+    closing: &Pending<()>,
+    channel: &Channel,
+) -> Result<(), Stop> {
+    for _ in 0..LIMIT * 1_000 / PART {
+        if let Some(answer) = closing.wait_for(rt, Duration::from_millis(PART)) {
+            return Ok(answer?);
         }
-        if left == 0 {
-            return Err(Stop::Silent(what, LIMIT));
-        }
+        let_go(rt, channel);
     }
-    unreachable!()
+    Err(Stop::Silent("close the connection", LIMIT))
 }

@@ -1,12 +1,11 @@
 //! How who consumes acknowledges, and comes to know that the broker has read that.
 
 use super::{Consumer, MOST_UNACKNOWLEDGED, tag, untaken};
-use amqp_client::{Client, LIMIT, Own, Stop, within};
+use amqp_client::{Client, LIMIT, Stop, within};
 use amqp_methods::{BasicAckOptions, BasicQosOptions, basic_ack, basic_cancel, basic_qos};
 use amqp_tools::Sink;
-use std::alloc::AllocGlobal;
-use std::random::RandomSource;
 use std::sync::Wait;
+use std::time::Clock;
 
 impl Consumer<'_> {
     // Acknowledges what was printed, once it is written. The broker is told before how few may come after it.
@@ -92,11 +91,7 @@ impl Consumer<'_> {
     }
 
     // Once all that are wanted were printed and acknowledged, waits until the broker has read that.
-    pub(crate) fn finish<R: Wait + RandomSource + AllocGlobal>(
-        &mut self,
-        rt: &R,
-        own: &mut Own,
-    ) -> Result<(), Stop> {
+    pub(crate) fn finish<R: Wait + Clock>(&mut self, rt: &R) -> Result<(), Stop> {
         for _ in rt.forever() {
             if self.taking.is_done() || self.taking.unsent() != Some(0) {
                 return Ok(());
@@ -105,7 +100,7 @@ impl Consumer<'_> {
             let Some(asked) = self.asked.take() else {
                 return Ok(());
             };
-            let answer = within(rt, &asked, own, LIMIT, "answer for what was acknowledged");
+            let answer = within(rt, &asked, LIMIT, "answer for what was acknowledged");
             drop(asked);
             match answer {
                 Ok(_active) => self.taking.answered()?,

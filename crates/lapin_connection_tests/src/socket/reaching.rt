@@ -6,7 +6,7 @@ use amqp_vectors::{OPEN_OK, START, TUNE, push_octets};
 use lapin_connection::{Cause, Connection, MioSpawner, Unreached};
 use std::alloc::Global;
 use std::io::{Read, Write};
-use std::net::{Net, OpenListener, SocketAddr};
+use std::net::{Net, OpenListener, SocketAddr, TcpListener, TcpStream};
 use std::sync::Wait;
 use std::test::Fail;
 use std::thread::{self, Threads};
@@ -28,10 +28,7 @@ fn said(alloc: Global) -> Result<Vec<u8>, Fail> {
 }
 
 // Says this to a client, and reads until that goes.
-fn serve<L: OpenListener>(listener: &L, said: &[u8])
-where
-    L::Stream: Read + Write + Drop,
-{
+fn serve(listener: &TcpListener, said: &[u8]) {
     let mut space = [0; 4096];
     match listener.accept() {
         Ok((mut peer, _address)) => {
@@ -59,10 +56,10 @@ fn address_of<L: OpenListener>(alloc: Global, listener: &L) -> Result<String, Fa
 }
 
 // The address of a server that opens a connection, on a thread of its own.
-fn server<R: Net + Threads>(rt: &R, alloc: Global) -> Result<String, Fail>
-where
-    R::Listener: Send + 'static,
-{
+fn server<R: Net<Listener = TcpListener, Stream = TcpStream> + Threads>(
+    rt: &R,
+    alloc: Global,
+) -> Result<String, Fail> {
     let said = said(alloc)?;
     let listener = rt.bind(SocketAddr::from(([127, 0, 0, 1], 0)))?;
     let address = address_of(alloc, &listener)?;
@@ -87,11 +84,17 @@ fn addresses(alloc: Global, texts: &[&str]) -> Result<Vec<AMQPUri>, Fail> {
 }
 
 // What connecting to the first of these gives.
-fn reach<R: Net + Threads + Wait + Clock + Copy + Send + Drop + 'static>(
-    rt: R,
-    alloc: Global,
-    uris: &[AMQPUri],
-) -> Result<Connection, Unreached> {
+fn reach<R>(rt: R, alloc: Global, uris: &[AMQPUri]) -> Result<Connection, Unreached>
+where
+    R: Net<Listener = TcpListener, Stream = TcpStream>
+        + Threads
+        + Wait
+        + Clock
+        + Copy
+        + Send
+        + Drop
+        + 'static,
+{
     let mut runtime = MioSpawner::new(rt, alloc);
     let reached = Connection::connect_any(
         rt,
@@ -105,11 +108,21 @@ fn reach<R: Net + Threads + Wait + Clock + Copy + Send + Drop + 'static>(
 }
 
 // Which was tried last and why it failed, where none of these is reached; nothing where one is, and is open.
-fn unreached<R: Net + Threads + Wait + Clock + Copy + Send + Drop + 'static>(
+fn unreached<R>(
     rt: R,
     alloc: Global,
     texts: &[&str],
-) -> Result<Option<(Option<usize>, Cause)>, Fail> {
+) -> Result<Option<(Option<usize>, Cause)>, Fail>
+where
+    R: Net<Listener = TcpListener, Stream = TcpStream>
+        + Threads
+        + Wait
+        + Clock
+        + Copy
+        + Send
+        + Drop
+        + 'static,
+{
     let uris = addresses(alloc, texts)?;
     let reached = reach(rt, alloc, &uris);
     drop(uris);
@@ -137,12 +150,16 @@ fn the_last_that_was_not_reached_is_told(rt: HostRuntime) -> Result<(), Fail> {
 }
 
 // Whether a server is reached that stands behind one that accepts and says nothing.
-fn reaches_behind<R: Net + Threads + Wait + Clock + Copy + Send + Drop + 'static>(
-    rt: R,
-    alloc: Global,
-) -> Result<bool, Fail>
+fn reaches_behind<R>(rt: R, alloc: Global) -> Result<bool, Fail>
 where
-    R::Listener: Send + 'static,
+    R: Net<Listener = TcpListener, Stream = TcpStream>
+        + Threads
+        + Wait
+        + Clock
+        + Copy
+        + Send
+        + Drop
+        + 'static,
 {
     let open = server(&rt, alloc)?;
     let silent = rt.bind(SocketAddr::from(([127, 0, 0, 1], 0)))?;
