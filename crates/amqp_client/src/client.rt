@@ -331,11 +331,7 @@ impl Client {
 
     /// Closes the connection, once what was sent has gone out or two seconds passed, and waits for that for ten
     /// seconds. Where the server answered, it has read what was sent before. Frames that come meanwhile are let go.
-    pub fn close<R: Wait + Clock>(
-        self,
-        rt: &R,
-        alloc: Global,
-    ) -> std::result::Result<(), Stop> {
+    pub fn close<R: Wait + Clock>(self, rt: &R, alloc: Global) -> std::result::Result<(), Stop> {
         let mut client = self;
         let Ok(text) = ShortString::new(alloc, b"OK") else {
             return Err(Stop::Failed(ErrorKind::NoMemory.into()));
