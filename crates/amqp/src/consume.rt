@@ -127,6 +127,6 @@ where
     };
     let ended = consumer.consume_all(&rt, &mut own, &mut out);
     drop(out);
-    consumer.close(&rt);
+    consumer.close(&rt, matches!(ended, Err(Stop::Silent(..))));
     ended
 }

@@ -239,12 +239,12 @@ impl<'a> Consumer<'a> {
 
     // Prints the messages that become whole by these frames, as many as are wanted.
     fn print<S: Sink>(&mut self, frames: Vec<Handed>, out: &mut S) -> Result<(), Stop> {
-        self.waited = 0;
         for frame in frames {
             let heard = self.hear(&frame);
             drop(frame);
             heard?;
             if let Some(tag) = self.arriving.whole() {
+                self.waited = 0;
                 let printed = self.take(tag, out);
                 self.arriving.forget();
                 printed?;
@@ -260,7 +260,10 @@ impl<'a> Consumer<'a> {
             RawKind::RawMethod if told_by(payload) == Heard::Cancelled => Err(Stop::Gone),
             RawKind::RawMethod => Ok(self.arriving.method(self.alloc, payload)?),
             RawKind::Header => self.header(payload),
-            RawKind::Body => Ok(self.arriving.part(payload)?),
+            RawKind::Body => {
+                self.waited = 0;
+                Ok(self.arriving.part(payload)?)
+            }
         }
     }
 
@@ -323,8 +326,9 @@ impl<'a> Consumer<'a> {
         }
     }
 
-    /// Says how far it came, and closes the connection, however that ends: what is counted is acknowledged.
-    pub fn close<R: Wait + Clock + Eprint>(self, rt: &R) {
+    /// Says how far it came, and closes the connection, however that ends: what is counted is acknowledged. A broker
+    /// that was waited for in vain is not asked for more.
+    pub fn close<R: Wait + Clock + Eprint>(self, rt: &R, is_silent: bool) {
         let consumer = self;
         consumer.tell(rt);
         let Consumer {
@@ -337,7 +341,7 @@ impl<'a> Consumer<'a> {
         } = consumer;
         drop(wanted);
         drop(taking);
-        drop(client.close(rt, alloc));
+        client.leave(rt, alloc, is_silent);
     }
 }
 

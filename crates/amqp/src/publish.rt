@@ -125,7 +125,8 @@ where
         Err(stop) => return Err(stop),
     };
     let published = publisher.publish_all(&rt, &mut own, &mut bodies);
-    let closed = publisher.close(&rt);
+    let is_silent = matches!(published, Err(Stop::Silent(..)));
+    let closed = publisher.close(&rt, is_silent);
     published?;
     closed
 }

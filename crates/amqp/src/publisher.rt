@@ -298,13 +298,15 @@ impl<'a, F: Write + Drop> Publisher<'a, F> {
         self.select(rt)?;
         let open = self.confirms.begin_again();
         let count = open.len();
+        let returned = open.iter().filter(|open| open.returned.is_some()).count();
+        self.counts.returned = self.counts.returned.saturating_sub(returned as u64);
         self.put_again(rt, open)?;
         let name = self.links.name;
         let _said = eprintln!(rt; "{name}: connected again, {count} published again");
         Ok(())
     }
 
-    // Publishes again what had no answer.
+    // Publishes again what had no answer, as if none of it had been given back.
     fn put_again<R: Wait>(&mut self, rt: &R, opens: Vec<Open>) -> Result<(), Stop> {
         for open in opens {
             let body = match &open.body {
@@ -312,15 +314,17 @@ impl<'a, F: Write + Drop> Publisher<'a, F> {
                 None => Payload::empty(self.alloc),
             };
             let message = open.message;
+            let mut open = open;
+            open.returned = None;
             self.confirms.publish_again(open)?;
             self.put(rt, message, body)?;
         }
         Ok(())
     }
 
-    /// Says how far it came, and closes the connection, however that ends: what was confirmed stays so. Whether
-    /// the broker took each message.
-    pub fn close<R: Wait + Clock + Eprint>(self, rt: &R) -> Result<bool, Stop> {
+    /// Says how far it came, and closes the connection, however that ends: what was confirmed stays so. A broker that
+    /// was waited for in vain is not asked for more. Whether the broker took each message.
+    pub fn close<R: Wait + Clock + Eprint>(self, rt: &R, is_silent: bool) -> Result<bool, Stop> {
         let mut publisher = self;
         let reported = publisher.report_open();
         if !publisher.target.is_quiet && publisher.told != Some(publisher.counts) {
@@ -339,7 +343,7 @@ impl<'a, F: Write + Drop> Publisher<'a, F> {
         drop(target);
         drop(report);
         drop(confirms);
-        drop(client.close(rt, alloc));
+        client.leave(rt, alloc, is_silent);
         reported?;
         Ok(counts.confirmed == counts.published && counts.returned == 0)
     }

@@ -219,7 +219,8 @@ impl Client {
         }
     }
 
-    // Waits for what comes first, of standard input too where that is wanted.
+    // Waits for what comes first, of standard input too where that is wanted. Of what is there already the second goes
+    // first, since frames may be there always.
     fn first<R: Wait + RandomSource + AllocGlobal>(
         &mut self,
         rt: &R,
@@ -233,10 +234,10 @@ impl Client {
             return self.first_of_all(rt, own);
         }
         let link = select(self.events.next_event(rt), self.channel.next_frames(rt));
-        match block_on(rt, select(link, own.seconds.recv())) {
-            Ok(Either::Left((Either::Left((event, _)), _))) => event_of(event),
-            Ok(Either::Left((Either::Right((frames, _)), _))) => frames_of(frames),
-            Ok(Either::Right(_)) => First::Second,
+        match block_on(rt, select(own.seconds.recv(), link)) {
+            Ok(Either::Left(_)) => First::Second,
+            Ok(Either::Right((Either::Left((event, _)), _))) => event_of(event),
+            Ok(Either::Right((Either::Right((frames, _)), _))) => frames_of(frames),
             Err(_) => First::NoMemory,
         }
     }
@@ -247,9 +248,9 @@ impl Client {
         rt: &R,
         own: &mut Own,
     ) -> First {
-        match block_on(rt, select(self.events.next_event(rt), own.seconds.recv())) {
-            Ok(Either::Left((event, _))) => event_of(event),
-            Ok(Either::Right(_)) => First::Second,
+        match block_on(rt, select(own.seconds.recv(), self.events.next_event(rt))) {
+            Ok(Either::Left(_)) => First::Second,
+            Ok(Either::Right((event, _))) => event_of(event),
             Err(_) => First::NoMemory,
         }
     }
@@ -262,18 +263,18 @@ impl Client {
     ) -> First {
         let link = select(self.events.next_event(rt), self.channel.next_frames(rt));
         let here = select(own.seconds.recv(), own.input.recv());
-        match block_on(rt, select(link, here)) {
-            Ok(Either::Left((Either::Left((event, _)), _))) => event_of(event),
-            Ok(Either::Left((Either::Right((frames, _)), _))) => frames_of(frames),
-            Ok(Either::Right((Either::Left(_), _))) => First::Second,
-            Ok(Either::Right((Either::Right((Ok(told), _)), _))) => First::Told(told),
-            Ok(Either::Right((Either::Right((Err(_), _)), _))) => First::Told(Told::End),
+        match block_on(rt, select(here, link)) {
+            Ok(Either::Left((Either::Left(_), _))) => First::Second,
+            Ok(Either::Left((Either::Right((Ok(told), _)), _))) => First::Told(told),
+            Ok(Either::Left((Either::Right((Err(_), _)), _))) => First::Told(Told::End),
+            Ok(Either::Right((Either::Left((event, _)), _))) => event_of(event),
+            Ok(Either::Right((Either::Right((frames, _)), _))) => frames_of(frames),
             Err(_) => First::NoMemory,
         }
     }
 
     // What an event tells, where it tells something.
-    fn told_by<R: Wait>(
+    fn told_by<R: Wait + Clock>(
         &mut self,
         rt: &R,
         event: Option<Event>,
@@ -289,7 +290,18 @@ impl Client {
                 drop(other);
                 Ok(None)
             }
-            None => Err(self.gone()),
+            None => Err(self.ended(rt)),
+        }
+    }
+
+    // How the connection ended that tells no more events.
+    fn ended<R: Wait + Clock>(&self, rt: &R) -> Stop {
+        let Ok(end) = self.connection.thread_handle() else {
+            return Stop::Failed(ErrorKind::NoMemory.into());
+        };
+        match end.wait_for(rt, Duration::from_secs(LIMIT)) {
+            Some(Err(cause)) => Stop::Failed(cause),
+            Some(Ok(())) | None => Stop::Closed,
         }
     }
 
@@ -300,7 +312,7 @@ impl Client {
 
     /// Waits for what comes next, and for standard input too where that is wanted. Where the server closed the
     /// channel with an error, that is told.
-    pub fn next<R: Wait + RandomSource + AllocGlobal>(
+    pub fn next<R: Wait + Clock + RandomSource + AllocGlobal>(
         &mut self,
         rt: &R,
         own: &mut Own,
@@ -340,6 +352,15 @@ impl Client {
         match client.connection.close(rt, &mut client.pass, 200, text) {
             Ok(closing) => closed(rt, &closing, &client.channel),
             Err(error) => Err(Stop::Failed(error)),
+        }
+    }
+    /// Closes the connection, however that ends. Where its broker was waited for in vain it is given up, and nothing more
+    /// is waited for.
+    pub fn leave<R: Wait + Clock>(self, rt: &R, alloc: Global, is_silent: bool) {
+        if is_silent {
+            let _told = self.connection.abandon();
+        } else {
+            drop(self.close(rt, alloc));
         }
     }
 }

@@ -11,7 +11,7 @@ use std::net::{Net, TcpListener, TcpStream};
 use std::random::RandomSource;
 use std::sync::Wait;
 use std::thread::Threads;
-use std::time::Clock;
+use std::time::{Clock, Instant};
 
 /// For how many seconds nothing is tried after each link that was lost or refused.
 const DELAYS: [u64; 16] = [1, 2, 4, 8, 16, 32, 60, 60, 60, 60, 60, 60, 60, 60, 60, 60];
@@ -29,6 +29,14 @@ fn may_serve(stop: &Stop) -> bool {
         Stop::Failed(error) => error.can_be_recovered(),
         Stop::Silent(..) => true,
         _ => false,
+    }
+}
+
+// How many seconds have passed since then; more than any limit where the clock can't be read.
+fn seconds_since<R: Clock>(rt: &R, then: Option<Instant>) -> u64 {
+    match then.map(|then| then.elapsed(rt)) {
+        Some(Ok(past)) => past.as_secs(),
+        Some(Err(_)) | None => u64::MAX,
     }
 }
 
@@ -66,7 +74,7 @@ impl Links<'_> {
         Client::open(rt, alloc, uri, own)
     }
 
-    /// The first link. It is tried again for so many seconds, where there is none.
+    /// The first link. Where there is none, it is tried again until so many seconds have passed.
     pub fn first<R>(
         &self,
         rt: R,
@@ -87,13 +95,14 @@ impl Links<'_> {
             + Send
             + 'static,
     {
-        let mut left = seconds;
+        let begun = Instant::now(&rt).ok();
         let mut delay = 1;
         for _ in rt.forever() {
             let stop = match self.one(rt, alloc, own) {
                 Ok(client) => return Ok(client),
                 Err(stop) => stop,
             };
+            let left = seconds.saturating_sub(seconds_since(&rt, begun));
             if left == 0 || !may_serve(&stop) {
                 return Err(stop);
             }
@@ -101,7 +110,6 @@ impl Links<'_> {
             self.say(&rt, "no link", &stop, delay);
             drop(stop);
             own.pass(&rt, delay)?;
-            left = left.saturating_sub(delay);
             delay = delay.saturating_mul(2).min(60);
         }
         unreachable!()

@@ -18,6 +18,9 @@ const BLOCK: usize = 65_536;
 /// How many such parts are read ahead.
 const AHEAD: usize = 4;
 
+/// How many seconds wait at most to be heard: one in the channel, and one of its sender.
+const SECONDS_AHEAD: usize = 2;
+
 /// What standard input tells.
 #[derive(Drop)]
 pub enum Told {
@@ -127,12 +130,18 @@ impl Own {
         }
     }
 
-    /// Waits for so many seconds.
+    /// Waits for so many seconds, those left out that passed before.
     pub fn pass<R: Wait + RandomSource + AllocGlobal>(
         &mut self,
         rt: &R,
         count: u64,
     ) -> Result<(), NoMemory> {
+        for _ in 0..SECONDS_AHEAD {
+            match self.seconds.try_recv() {
+                Ok(_second) => {}
+                Err(_) => break,
+            }
+        }
         for _ in 0..count {
             match block_on(rt, self.seconds.recv()) {
                 Ok(_second) => {}

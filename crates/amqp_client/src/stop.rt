@@ -28,6 +28,8 @@ pub enum Stop {
     Astray,
     /// The broker did not do this for so many seconds.
     Silent(&'static str, u64),
+    /// The broker closed the connection, and gave no error.
+    Closed,
     /// The connection failed.
     Failed(Error),
 }
@@ -73,6 +75,10 @@ pub fn explain<R: Eprint>(rt: &R, name: &str, help: &str, stop: Stop) -> u8 {
         Stop::Silent(what, seconds) => (
             FAILED,
             eprintln!(rt; "{name}: the broker did not {what} for {seconds} s"),
+        ),
+        Stop::Closed => (
+            FAILED,
+            eprintln!(rt; "{name}: the broker closed the connection"),
         ),
         Stop::Failed(error) if *error.kind() == ErrorKind::NoMemory => {
             (NO_MEMORY, eprintln!(rt; "{name}: memory was refused"))

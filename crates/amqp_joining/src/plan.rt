@@ -1,6 +1,6 @@
 //! A plan for both ends of a link.
 
-ghost use Rattle.std.specs.Prelude.{◌≡◌, ◌≤◌, ◌↔◌, ◌-◌, ◌^◌, min, IsTrue};
+ghost use Rattle.std.specs.Prelude.{◌≡◌, ◌≤◌, ℕ, ◌↔◌, ◌-◌, ◌^◌, min, IsTrue};
 ghost use Rattle.std.specs.List.{AllByRecursion};
 ghost use Rattle.amqp_joining.specs.Plans.{join_plan_of, IsPlan, text_octets, command_turns, turns_for_all, turns_of};
 
@@ -36,10 +36,7 @@ impl Plan {
         ensures { IsTrue result ↔ IsPlan (join_plan_of self.now) }
     {
         let (cuts, rooms) = (self.cuts.as_slice(), self.rooms.as_slice());
-        if cuts.is_empty() || rooms.is_empty() {
-            return false;
-        }
-        cuts.iter().all(|n| 1 <= *n && *n <= LONGEST_CUT) && rooms.iter().all(|n| 1 <= *n)
+        !cuts.is_empty() && !rooms.is_empty() && are_cuts(cuts) && are_rooms(rooms)
     }
 
     /// How many turns are enough, or the greatest number where that is less. It takes no memory.
@@ -48,6 +45,20 @@ impl Plan {
     {
         turns_for_all(&self.commands)
     }
+}
+
+// Whether each piece may be so long.
+fn are_cuts(cuts: &[u64]) -> bool
+    ensures { IsTrue result ↔ AllByRecursion (λ (n : ℕ). (1 ≤ n) × (n ≤ 4096)) cuts.now }
+{
+    cuts.iter().all(|n| 1 <= *n && *n <= LONGEST_CUT)
+}
+
+// Whether there is room each time.
+fn are_rooms(rooms: &[u64]) -> bool
+    ensures { IsTrue result ↔ AllByRecursion (λ (n : ℕ). 1 ≤ n) rooms.now }
+{
+    rooms.iter().all(|n| 1 <= *n)
 }
 
 // How many turns are enough for these commands.

@@ -1,6 +1,6 @@
 //! Connecting to the first of several addresses that is reached.
 
-ghost use Rattle.std.specs.Prelude.{◌≤◌, ◌<◌, IfErr, IfOk, IfSome, length};
+ghost use Rattle.std.specs.Prelude.{◌≡◌, ◌≤◌, ◌<◌, [], None, IfErr, IfOk, IfSome, length};
 ghost use Rattle.lapin_connection.specs.Connecting.{HasBegunTo, HasReached};
 
 use crate::connection::Connection;
@@ -32,7 +32,7 @@ impl Connection {
     /// Connects to each of these addresses, one after the other, until a connection is open, which it gives: for 10
     /// seconds, all together, of which each has an equal share of what is left. Else the error tells of the one that
     /// was tried last. The options are made anew for each; with delays among them, an address that refuses is asked
-    /// again, as long as its share lasts.
+    /// again, as long as its share lasts. The connection keeps its journal, as of each `connect_` call.
     #[tactic(auto, using(crate::proofs::Begun::has_reached))]
     pub fn connect_any<S: Spawner, R: Clock + Threads + Wait + Copy + Send + 'static, O>(
         rt: R,
@@ -46,17 +46,26 @@ impl Connection {
         requires { O.IsAlwaysCallable options }
         ensures reached { IfOk result (HasReached (S.asked runtime.new) uris.now) }
         ensures last { IfErr result (λ u. IfSome u.last (λ n. n < length uris.now)) }
+        ensures none { IfErr result (λ u. u.last ≡ None → uris.now ≡ []) }
         ensures count { S.refusals runtime.old ≤ S.refusals runtime.new }
     {
-        let patience = Patience::of(&rt, Duration::from_millis(PATIENCE));
-        let mut last = None;
         let mut cause = Cause::Nothing;
         let mut error: Error = ErrorKind::IOError(IoFault::Refused).into();
+        if uris.is_empty() {
+            return Err(Unreached {
+                last: None,
+                cause,
+                error,
+            });
+        }
+        let patience = Patience::of(&rt, Duration::from_millis(PATIENCE));
+        let mut last = 0;
         'tried: for n in 0..uris.len() {
-            let Some(left) = patience.left(&rt) else {
+            let left = patience.left(&rt).unwrap_or(Duration::ZERO);
+            if left.is_zero() && n > 0 {
                 break 'tried;
-            };
-            last = Some(n);
+            }
+            last = n;
             let share = share(left, uris.len() - n);
             match reach(rt, alloc, &uris[n], options(), share, runtime) {
                 Ok(connection) => {
@@ -67,7 +76,11 @@ impl Connection {
             }
             cause = cause_of(runtime);
         }
-        Err(Unreached { last, cause, error })
+        Err(Unreached {
+            last: Some(last),
+            cause,
+            error,
+        })
     }
 }
 
@@ -121,9 +134,12 @@ fn opened_within<R: Wait + Clock>(
     }
 }
 
-// Gives a connection up that was not open in time, and says how it ended.
+// Gives a connection up that was not open in time, and says how it ended, where its port can be told that nobody waits
+// for it: it ends at once then.
 fn given_up<R: Wait>(rt: &R, connection: Connection) -> Error {
-    let _told = connection.abandon();
+    if !connection.abandon() {
+        return ErrorKind::IOError(IoFault::Refused).into();
+    }
     match connection.run(rt) {
         Ok(()) => ErrorKind::IOError(IoFault::Refused).into(),
         Err(error) => error,

@@ -11,7 +11,6 @@ use std::io::Write;
 impl<F: Write + Drop> Publisher<'_, F> {
     // Hears what the broker tells by frames.
     pub(crate) fn hear(&mut self, frames: Vec<Handed>) -> Result<(), Stop> {
-        self.waited = 0;
         for frame in frames {
             let heard = self.hear_one(&frame);
             drop(frame);
@@ -34,10 +33,12 @@ impl<F: Write + Drop> Publisher<'_, F> {
         }
     }
 
-    // Whether a part of a body that is given back is kept, by which it is told from others: no more than one may have.
+    // Whether a part of a body that is given back is kept, by which it is told from others: no more than one may have,
+    // and where it is told which came back, or put in again what has no answer.
     fn is_kept(&self, payload: &[u8]) -> bool {
         let size = self.body.len().saturating_add(payload.len());
-        self.returning.is_some() && self.report.is_wanted() && size <= self.target.most
+        let is_wanted = self.report.is_wanted() || self.target.recovers;
+        self.returning.is_some() && is_wanted && size <= self.target.most
     }
 
     // A part of a body that is given back.
@@ -62,17 +63,26 @@ impl<F: Write + Drop> Publisher<'_, F> {
         }
     }
 
+    // How many that had no answer this one means. Where it means any, the broker was not waited for in vain.
+    fn answered(&mut self, tag: u64, multiple: bool) -> u64 {
+        let count = self.confirms.answered(tag, multiple) as u64;
+        if count > 0 {
+            self.waited = 0;
+        }
+        count
+    }
+
     // Counts what the broker told.
     fn told(&mut self, heard: Heard, payload: &[u8]) -> Result<(), Stop> {
         match heard {
             Heard::Taken(tag, multiple) => {
                 self.report_each(tag, multiple, "confirmed")?;
-                let count = self.confirms.answered(tag, multiple) as u64;
+                let count = self.answered(tag, multiple);
                 self.counts.confirmed = self.counts.confirmed.saturating_add(count);
             }
             Heard::Refused(tag, multiple) => {
                 self.report_each(tag, multiple, "refused")?;
-                let count = self.confirms.answered(tag, multiple) as u64;
+                let count = self.answered(tag, multiple);
                 self.counts.refused = self.counts.refused.saturating_add(count);
             }
             Heard::Returned => {
