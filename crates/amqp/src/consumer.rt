@@ -291,14 +291,10 @@ impl<'a> Consumer<'a> {
 
     // Takes the message that is whole: it is printed, where it is wanted and was not printed before.
     fn take<S: Sink>(&mut self, tag: u64, out: &mut S) -> Result<(), Stop> {
-        let name = match &self.wanted.once {
-            Some(property) => value_of(property.as_str(), &self.properties),
-            None => None,
-        };
         let delivery = Delivery {
             tag,
             redelivered: self.arriving.redelivered(),
-            name,
+            name: name_among(&self.wanted.once, &self.properties),
             body: self.arriving.body(),
         };
         match self.taking.come(out, self.wanted.framing, delivery) {
@@ -342,6 +338,14 @@ impl<'a> Consumer<'a> {
         drop(wanted);
         drop(taking);
         client.leave(rt, alloc, is_silent);
+    }
+}
+
+// By which of its properties a message is known, where it has that.
+fn name_among<'a>(once: &Option<Text>, properties: &'a [u8]) -> Option<&'a [u8]> {
+    match once {
+        Some(property) => value_of(property.as_str(), properties),
+        None => None,
     }
 }
 

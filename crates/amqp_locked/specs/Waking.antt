@@ -45,6 +45,11 @@ news_after before after = record {
   end = moved before after;
 }
 
+-- something for all who wait
+abbrev pub news_for_all : News
+news_for_all =
+    record { answers = true; frames = true; events = true; states = true; room = true; end = true }
+
 -- no task waits any more that waits for what there is something of
 pub record AreWoken (news : News) (tasks : Tasks) : Type 0 where
   pub answers : news.answers ≡ true → tasks.answers.wakers ≡ []

@@ -2,7 +2,7 @@
 
 ghost use Rattle.std.specs.Prelude.{◌≡◌};
 ghost use Rattle.amqp_rules.specs.Ticks.{is_connected};
-ghost use Rattle.amqp_locked.specs.Waking.{moved, news_after};
+ghost use Rattle.amqp_locked.specs.Waking.{moved, news_after, news_for_all};
 
 use crate::reading::Reading;
 use amqp_engine::Step;
@@ -56,7 +56,9 @@ pub struct News {
 
 impl News {
     /// Something for all who wait.
-    pub fn for_all() -> News {
+    pub fn for_all() -> News
+        ensures { result ≡ news_for_all }
+    {
         News {
             answers: true,
             frames: true,

@@ -4,6 +4,7 @@ use super::{Consumer, MOST_UNACKNOWLEDGED, tag, untaken};
 use amqp_client::{Client, LIMIT, Stop, within};
 use amqp_methods::{BasicAckOptions, BasicQosOptions, basic_ack, basic_cancel, basic_qos};
 use amqp_tools::Sink;
+use lapin_connection::Pending;
 use std::sync::Wait;
 use std::time::Clock;
 
@@ -100,17 +101,25 @@ impl Consumer<'_> {
             let Some(asked) = self.asked.take() else {
                 return Ok(());
             };
-            let answer = within(rt, &asked, LIMIT, "answer for what was acknowledged");
+            let is_answered = is_answered(rt, &asked);
             drop(asked);
-            match answer {
-                Ok(_active) => self.taking.answered()?,
-                Err(Stop::Failed(error)) if error.can_be_recovered() => {
-                    drop(error);
-                    return Ok(());
-                }
-                Err(stop) => return Err(stop),
+            if !is_answered? {
+                return Ok(());
             }
+            self.taking.answered()?;
         }
         unreachable!()
+    }
+}
+
+// Waits until this is answered, and says whether it is: not where the link is gone, which is told otherwise.
+fn is_answered<R: Wait + Clock>(rt: &R, asked: &Pending<bool>) -> Result<bool, Stop> {
+    match within(rt, asked, LIMIT, "answer for what was acknowledged") {
+        Ok(_active) => Ok(true),
+        Err(Stop::Failed(error)) if error.can_be_recovered() => {
+            drop(error);
+            Ok(false)
+        }
+        Err(stop) => Err(stop),
     }
 }

@@ -2,7 +2,7 @@
 
 ghost use Rattle.std.specs.Prelude.{◌≡◌};
 ghost use Rattle.amqp_locked.specs.UnderLock.{contents};
-ghost use Rattle.amqp_locked.specs.Waking.{counts_of};
+ghost use Rattle.amqp_locked.specs.Waking.{counts_of, news_after};
 
 use super::Locked;
 use crate::waking::{Counts, News, news_after};
@@ -25,7 +25,8 @@ impl Locked {
 
     /// For whom there is something once a turn was taken in this hold, before which so much was counted.
     pub fn news_since(&mut self, before: Counts) -> News
-        ensures { contents self.new ≡ contents self.old }
+        ensures news { result ≡ news_after before (counts_of self.new) }
+        ensures rest { contents self.new ≡ contents self.old }
     {
         let entered = self.hub.since(before.entries);
         self.seen = self.seen.with_all(&mut self.reading, entered);

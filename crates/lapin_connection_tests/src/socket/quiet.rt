@@ -1,6 +1,6 @@
 //! A port that tells nothing but that time passes, and what would end its wait, which is a test's own.
 
-ghost use Rattle.std.specs.Prelude.{◌≤◌, None, OnOk, option_map};
+ghost use Rattle.std.specs.Prelude.{◌≡◌, ◌≤◌, None, OnOk, option_map};
 ghost use Rattle.amqp_types.specs.Counts.{Rose};
 ghost use Rattle.lapin_connection.specs.Refusals.{RoseIfRefused};
 
