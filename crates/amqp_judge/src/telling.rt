@@ -1,5 +1,9 @@
 //! What is said of a link that was judged: the line of the verdict, and what is wrong with it.
 
+ghost use Rattle.std.specs.Prelude.{◌≡◌, IfOk};
+ghost use Rattle.std.specs.String.{string_bytes};
+ghost use Rattle.amqp_judge.specs.Lines.{verdict_text};
+
 use crate::judging::Judging;
 use crate::side::Side;
 use amqp_check::{Broken, Finding, Verdict};
@@ -14,7 +18,9 @@ pub enum Whose {
 }
 
 /// The line of a verdict.
-pub fn verdict_line(alloc: Global, verdict: Verdict) -> Result<String, NoMemory> {
+pub fn verdict_line(alloc: Global, verdict: Verdict) -> Result<String, NoMemory>
+    ensures { IfOk result (λ line. string_bytes line ≡ verdict_text verdict) }
+{
     Ok(match verdict {
         Verdict::Legal(client, server) => format!(in alloc; "legal {client} {server}")?,
         Verdict::BadClient(place) => format!(in alloc; "bad client {place}")?,
