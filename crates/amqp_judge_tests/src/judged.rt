@@ -135,14 +135,14 @@ fn what_is_wrong_with_a_link_is_said(rt: HostRuntime) -> Result<(), NoMemory> {
     Ok(())
 }
 
-// The head of a body frame that says that it has 4 GiB.
-const FOUR_GIB: &str = "03 0001 ffffffff";
+// The head of a body frame that says that it has 2 GiB.
+const TWO_GIB: &str = "03 0001 7fffffff";
 
 /// What is said where the client's frame 2 is too long, its frame 1 may not be said, and the server closed channel 1.
 const OF_THE_CLIENT: &str = "client byte 16: frame 2 is too long to be judged
 client byte 16: a frame begins here, and is not all there
-octets: 03 00 01 ff ff ff ff
-7 of its 4294967303 octets are there
+octets: 03 00 01 7f ff ff ff
+7 of its 2147483655 octets are there
 client byte 8: frame 1 is a heartbeat
 said so far: the protocol header
 start-ok comes next
@@ -151,8 +151,8 @@ the server closed channel 1 in its frame 0: 404 no q (queue.declare 50.10)";
 /// What is said where the server's frame 1 is too long.
 const OF_THE_SERVER: &str = "server byte 105: frame 1 is too long to be judged
 server byte 105: a frame begins here, and is not all there
-octets: 03 00 01 ff ff ff ff
-7 of its 4294967303 octets are there
+octets: 03 00 01 7f ff ff ff
+7 of its 2147483655 octets are there
 the client's whole frames are a legal conversation";
 
 // What is said of both sides, of which the one gets more octets than are kept behind these.
@@ -195,7 +195,7 @@ fn is_said_of_too_long(
 
 #[test]
 fn what_is_found_before_a_frame_that_is_too_long_is_said(rt: HostRuntime) -> Result<(), NoMemory> {
-    let client = [HEADER, HEARTBEAT, FOUR_GIB];
+    let client = [HEADER, HEARTBEAT, TWO_GIB];
     assert!(rt;
         is_said_of_too_long(
             rt.alloc(),
@@ -205,7 +205,7 @@ fn what_is_found_before_a_frame_that_is_too_long_is_said(rt: HostRuntime) -> Res
             OF_THE_CLIENT
         )?
     );
-    let server = [START, FOUR_GIB];
+    let server = [START, TWO_GIB];
     assert!(rt;
         is_said_of_too_long(
             rt.alloc(),
