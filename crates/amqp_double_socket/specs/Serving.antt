@@ -1,5 +1,5 @@
 -- What serving a client by a double does to what is written to the client, and to what is read of it.
-use Rattle.std.specs.Prelude.{◌≡◌, ℕ, ◌+◌, List, ◌++◌, length, drop, Option, None}
+use Rattle.std.specs.Prelude.{◌≡◌, ◌<◌, ◌≤◌, ◌⊎◌, ℕ, ◌+◌, ◌-◌, ◌^◌, List, ◌++◌, length, drop, Option, None}
 use Rattle.std.specs.Io.KnownBytes.{Appends, Consumes}
 use Rattle.amqp_double.specs.Doubles.{DoubleState}
 use Rattle.amqp_double_socket.specs.declared.serving.Ended.{Ended}
@@ -33,6 +33,10 @@ pub record Sends (old new : DoubleState) (before after : Option (List ℕ)) : Ty
   pub front : drop old.sent old.said ≡ octets ++ drop new.sent old.said
   pub sent : new.sent ≡ old.sent + length octets
   pub written : Appends before after octets
+
+-- a count of failures rose, or stands at the greatest number of 64 bits, where it stays
+abbrev pub FaultsRise : ℕ → ℕ → Type 0
+FaultsRise before now = (before < now) ⊎ (2 ^ 64 - 1 ≤ now)
 
 -- an end before which all that was said was written
 abbrev pub EndsWhole : Ended → Type 0

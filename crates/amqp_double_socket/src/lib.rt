@@ -3,8 +3,10 @@
 //! new.
 #![tactic(auto)]
 
+mod counted;
 mod serving;
 mod thread;
 
+pub use counted::Counted;
 pub use serving::{Ended, serve};
 pub use thread::{Served, Serving, serve_link};

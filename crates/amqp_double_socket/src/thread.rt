@@ -6,6 +6,7 @@ ghost use Rattle.amqp_double.specs.Faults.{result_of};
 ghost use Rattle.amqp_double.specs.declared.refusal.DoubleFault.{DoubleFault};
 ghost use Rattle.amqp_double_socket.specs.Serving.{HasSentAll};
 
+use crate::counted::Counted;
 use crate::serving::{Ended, serve};
 use amqp_double::Double;
 use amqp_settings::Configuration;
@@ -34,7 +35,7 @@ pub struct Serving {
 fn serve_over<S: Read + Write + OpenStream + Drop>(
     alloc: Global,
     double: &mut Double,
-    mut link: S,
+    link: S,
 ) -> Ended
     requires answers { AnswersClient double.old }
     requires sent { HasSentAll double.old }
@@ -43,13 +44,15 @@ fn serve_over<S: Read + Write + OpenStream + Drop>(
     ensures refused { (fault : DoubleFault) → result ≡ Ended.Refused fault → Err fault ≡ result_of double.new.refusal }
 {
     let cloned = link.try_clone();
-    let Ok(mut writer) = cloned else {
+    let Ok(writer) = cloned else {
         drop(link);
         return Ended::Failed;
     };
-    let ended = serve(alloc, double, &mut link, &mut writer);
+    let mut reader = Counted::new(link);
+    let mut writer = Counted::new(writer);
+    let ended = serve(alloc, double, &mut reader, &mut writer);
     drop(writer);
-    drop(link);
+    drop(reader);
     ended
 }
 

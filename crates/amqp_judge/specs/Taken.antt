@@ -1,5 +1,5 @@
 -- What was taken of the sides of a link whose octets come in pieces.
-use Rattle.std.specs.Prelude.{◌≡◌, ◌≢◌, ℕ, ◌+◌, ◌-◌, List, length, drop}
+use Rattle.std.specs.Prelude.{◌≡◌, ◌≢◌, ◌<◌, ◌≤◌, ◌⊎◌, ℕ, ◌+◌, ◌-◌, ◌^◌, List, length, drop}
 use Rattle.amqp_frame.specs.declared.frame.Frame.{Frame}
 use Rattle.amqp_frame.specs.Sequences.{Stand, SequenceEnd, IsSequence}
 use Rattle.amqp_frame.specs.Sequences.SequenceEnd.{Complete, Cut as InFrame, Broken}
@@ -10,6 +10,7 @@ use Rattle.amqp_check.specs.declared.end.End.TheVariants as at
 use Rattle.amqp_judge.specs.declared.side.Ending.{Ending}
 use Rattle.amqp_judge.specs.declared.side.Ending.TheVariants.{Whole, Cut, Bad}
 use Rattle.amqp_judge.specs.declared.side.Side.{Side}
+use Rattle.amqp_judge.specs.declared.side.TheConstants.{MOST_UNREAD}
 use Rattle.amqp_judge.specs.declared.client.Client.{Client}
 use Rattle.amqp_judge.specs.declared.server.Server.{Server}
 use Rattle.amqp_judge.specs.declared.judging.Judging.{Judging}
@@ -38,6 +39,12 @@ pub record IsReadUpTo (octets : List ℕ) (frames : List Frame) (side : Side) : 
 pub record IsTaken (octets : List ℕ) (frames : List Frame) (side : Side) : Type 0 where
   pub sequence : IsSequence octets no_limit frames side.place (sequence_end side.ending)
   pub kept : side.ending ≢ Bad → IsReadUpTo octets frames side
+
+-- with so many octets more it would keep more than the most that are kept, or have more than 64 bits count
+abbrev pub IsTooMuch : Side → ℕ → Type 0
+IsTooMuch side more =
+    (MOST_UNREAD < length side.unread.items - side.at + more)
+    ⊎ (2 ^ 64 ≤ side.place + (length side.unread.items - side.at) + more)
 
 -- ---- both
 

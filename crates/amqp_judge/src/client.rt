@@ -1,6 +1,6 @@
 //! The client's side, whose frames are heard.
 
-ghost use Rattle.std.specs.Prelude.{◌≡◌, ◌≢◌, ◌≤◌, ◌<◌, ◌+◌, ◌++◌, ◌∷◌, [], ℕ, List, OnOk, IfOk};
+ghost use Rattle.std.specs.Prelude.{◌≡◌, ◌≢◌, ◌≤◌, ◌<◌, ◌+◌, ◌++◌, ◌∷◌, [], ℕ, List, OnOk, IfOk, Err, length};
 ghost use Rattle.amqp_frame.specs.declared.frame.Frame.{Frame as AnyFrame};
 ghost use Rattle.amqp_check.specs.Hearing.{HasHeard};
 
@@ -23,7 +23,7 @@ pub struct Client {
 }
 
 impl Client {
-    ghost use Rattle.amqp_judge.specs.Taken.{HasHeardClient};
+    ghost use Rattle.amqp_judge.specs.Taken.{HasHeardClient, IsTooMuch};
 
     /// No octet came.
     pub fn new(alloc: Global) -> Result<Client, NoMemory>
@@ -61,8 +61,9 @@ impl Client {
 
     /// Takes a further piece of octets. Behind what is no frame nothing is read.
     pub fn take(&mut self, alloc: Global, piece: &[u8]) -> Result<(), Unjudged>
-        ensures { (octets : List ℕ) → HasHeardClient octets self.old
+        ensures taken { (octets : List ℕ) → HasHeardClient octets self.old
             → OnOk result (HasHeardClient (octets ++ piece.now) self.new) }
+        ensures too_long { result ≡ Err Unjudged.TooLong → IsTooMuch self.old.side (length piece.now) }
     {
         match self.side.ending() {
             Ending::Bad => Ok(()),
@@ -73,8 +74,9 @@ impl Client {
     // Reads on, with a further piece.
     fn read(&mut self, alloc: Global, piece: &[u8]) -> Result<(), Unjudged>
         requires { self.old.side.ending ≢ Ending.Bad }
-        ensures { (octets : List ℕ) → HasHeardClient octets self.old
+        ensures taken { (octets : List ℕ) → HasHeardClient octets self.old
             → OnOk result (HasHeardClient (octets ++ piece.now) self.new) }
+        ensures too_long { result ≡ Err Unjudged.TooLong → IsTooMuch self.old.side (length piece.now) }
     {
         self.side.push(alloc, piece)?;
         'frames: loop {

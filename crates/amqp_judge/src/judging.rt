@@ -1,6 +1,6 @@
 //! The verdict on a link whose octets come in pieces.
 
-ghost use Rattle.std.specs.Prelude.{◌++◌, [], ℕ, List, IfOk, OnOk};
+ghost use Rattle.std.specs.Prelude.{◌≡◌, ◌++◌, [], ℕ, List, IfOk, OnOk, Err, length};
 ghost use Rattle.amqp_check.specs.Verdicts.{IsVerdict};
 
 use crate::client::Client;
@@ -19,7 +19,7 @@ pub struct Judging {
 }
 
 impl Judging {
-    ghost use Rattle.amqp_judge.specs.Taken.{HasTakenSides};
+    ghost use Rattle.amqp_judge.specs.Taken.{HasTakenSides, IsTooMuch};
 
     /// Nothing was taken.
     pub fn new(alloc: Global) -> Result<Judging, NoMemory>
@@ -34,16 +34,18 @@ impl Judging {
 
     /// Takes further octets of the client. After an error it is not to be used any more.
     pub fn client(&mut self, alloc: Global, piece: &[u8]) -> Result<(), Unjudged>
-        ensures { (client server : List ℕ) → HasTakenSides client server self.old
+        ensures taken { (client server : List ℕ) → HasTakenSides client server self.old
             → OnOk result (HasTakenSides (client ++ piece.now) server self.new) }
+        ensures too_long { result ≡ Err Unjudged.TooLong → IsTooMuch self.old.client.side (length piece.now) }
     {
         self.client.take(alloc, piece)
     }
 
     /// Takes further octets of the server. After an error it is not to be used any more.
     pub fn server(&mut self, alloc: Global, piece: &[u8]) -> Result<(), Unjudged>
-        ensures { (client server : List ℕ) → HasTakenSides client server self.old
+        ensures taken { (client server : List ℕ) → HasTakenSides client server self.old
             → OnOk result (HasTakenSides client (server ++ piece.now) self.new) }
+        ensures too_long { result ≡ Err Unjudged.TooLong → IsTooMuch self.old.server.side (length piece.now) }
     {
         self.server.take(alloc, piece)
     }

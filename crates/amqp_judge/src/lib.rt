@@ -16,5 +16,5 @@ pub use client::Client;
 pub use judging::Judging;
 pub use server::Server;
 pub use side::{Ending, MOST_UNREAD, Side, Unjudged};
-pub use telling::{told, verdict_line};
+pub use telling::{Whose, told, told_too_long, verdict_line};
 pub use words::{HELP_TEXT, asked, run};

@@ -1,6 +1,6 @@
 //! The server's side, whose frames are counted.
 
-ghost use Rattle.std.specs.Prelude.{◌≡◌, ◌≢◌, ◌≤◌, ◌<◌, ◌+◌, ◌++◌, [], ℕ, List, OnOk};
+ghost use Rattle.std.specs.Prelude.{◌≡◌, ◌≢◌, ◌≤◌, ◌<◌, ◌+◌, ◌++◌, [], ℕ, List, OnOk, Err, length};
 
 use crate::side::{Ending, Side, Unjudged};
 use amqp_check::{Closing, closing_in};
@@ -18,7 +18,7 @@ pub struct Server {
 }
 
 impl Server {
-    ghost use Rattle.amqp_judge.specs.Taken.{HasCountedServer};
+    ghost use Rattle.amqp_judge.specs.Taken.{HasCountedServer, IsTooMuch};
 
     /// No octet came.
     pub fn new(alloc: Global) -> Server
@@ -52,8 +52,9 @@ impl Server {
 
     /// Takes a further piece of octets. Behind what is no frame nothing is read.
     pub fn take(&mut self, alloc: Global, piece: &[u8]) -> Result<(), Unjudged>
-        ensures { (octets : List ℕ) → HasCountedServer octets self.old
+        ensures taken { (octets : List ℕ) → HasCountedServer octets self.old
             → OnOk result (HasCountedServer (octets ++ piece.now) self.new) }
+        ensures too_long { result ≡ Err Unjudged.TooLong → IsTooMuch self.old.side (length piece.now) }
     {
         match self.side.ending() {
             Ending::Bad => Ok(()),
@@ -64,8 +65,9 @@ impl Server {
     // Reads on, with a further piece.
     fn read(&mut self, alloc: Global, piece: &[u8]) -> Result<(), Unjudged>
         requires { self.old.side.ending ≢ Ending.Bad }
-        ensures { (octets : List ℕ) → HasCountedServer octets self.old
+        ensures taken { (octets : List ℕ) → HasCountedServer octets self.old
             → OnOk result (HasCountedServer (octets ++ piece.now) self.new) }
+        ensures too_long { result ≡ Err Unjudged.TooLong → IsTooMuch self.old.side (length piece.now) }
     {
         self.side.push(alloc, piece)?;
         'frames: loop {

@@ -1,7 +1,7 @@
 //! One side of a link, whose octets come in pieces.
 
 ghost use Rattle.std.specs.Prelude.{◌≡◌, ◌≢◌, ◌≤◌, ◌<◌, ◌+◌, ◌-◌, ◌^◌, ◌∷◌, ◌++◌, [], ℕ, List, length};
-ghost use Rattle.std.specs.Prelude.{IfOk, OnOk, IfSome, IfNone, Err, ◌⊎◌, drop};
+ghost use Rattle.std.specs.Prelude.{IfOk, OnOk, IfSome, IfNone, Err, drop};
 ghost use Rattle.amqp_frame.specs.declared.frame.Frame.{Frame as AnyFrame};
 
 use amqp_check::{End, Next, read_next};
@@ -15,7 +15,7 @@ pub const MOST_UNREAD: usize = 33_554_432;
 /// Why a capture is not judged.
 #[derive(Clone, Copy, Debug, PartialEq, Eq)]
 pub enum Unjudged {
-    /// A frame begins that has more octets than are kept, or a side more than can be counted.
+    /// More octets would be kept of a side than are, of a frame or of one piece, or counted than can be.
     TooLong,
     NoMemory,
 }
@@ -83,7 +83,7 @@ pub struct Side {
 }
 
 impl Side {
-    ghost use Rattle.amqp_judge.specs.Taken.{IsReadUpTo, IsTaken};
+    ghost use Rattle.amqp_judge.specs.Taken.{IsReadUpTo, IsTaken, IsTooMuch};
 
     /// No octet came.
     pub fn new(alloc: Global) -> Side
@@ -137,9 +137,7 @@ impl Side {
         ensures read { (octets : List ℕ) (frames : List AnyFrame) → IsReadUpTo octets frames self.old
             → OnOk result (IsReadUpTo (octets ++ piece.now) frames self.new) }
         ensures place { self.new.place ≡ self.old.place }
-        ensures too_long { result ≡ Err Unjudged.TooLong
-            → (MOST_UNREAD < length self.old.unread.items - self.old.at + length piece.now)
-            ⊎ (2 ^ 64 ≤ self.old.place + (length self.old.unread.items - self.old.at) + length piece.now) }
+        ensures too_long { result ≡ Err Unjudged.TooLong → IsTooMuch self.old (length piece.now) }
     {
         self.let_go(alloc)?;
         let len = self.unread.len() as u64 + piece.len() as u64;

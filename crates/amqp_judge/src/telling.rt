@@ -1,13 +1,26 @@
 //! What is said of a link that was judged: the line of the verdict, and what is wrong with it.
 
+ghost use Rattle.std.specs.Prelude.{◌≡◌, IfOk};
+ghost use Rattle.std.specs.String.{string_bytes};
+ghost use Rattle.amqp_judge.specs.Lines.{verdict_text};
+
 use crate::judging::Judging;
 use crate::side::Side;
 use amqp_check::{Broken, Finding, Verdict};
 use amqp_types::NoMemory;
 use std::alloc::Global;
 
+/// A side of a link.
+#[derive(Clone, Copy, Debug, PartialEq, Eq)]
+pub enum Whose {
+    Client,
+    Server,
+}
+
 /// The line of a verdict.
-pub fn verdict_line(alloc: Global, verdict: Verdict) -> Result<String, NoMemory> {
+pub fn verdict_line(alloc: Global, verdict: Verdict) -> Result<String, NoMemory>
+    ensures { IfOk result (λ line. string_bytes line ≡ verdict_text verdict) }
+{
     Ok(match verdict {
         Verdict::Legal(client, server) => format!(in alloc; "legal {client} {server}")?,
         Verdict::BadClient(place) => format!(in alloc; "bad client {place}")?,
@@ -125,6 +138,30 @@ pub fn told(alloc: Global, judging: Judging) -> Result<String, NoMemory> {
     if !closed.is_empty() {
         begin_line(&mut out)?;
         out.push_str(&closed)?;
+    }
+    Ok(out)
+}
+
+/// What is to be said of a link of which one side was refused as too long: where its frame begins that is, which one
+/// that is, and then what is to be said of all that was taken before.
+pub fn told_too_long(alloc: Global, judging: Judging, whose: Whose) -> Result<String, NoMemory> {
+    let (name, place, number) = match whose {
+        Whose::Client => {
+            let client = judging.client_side();
+            ("client", client.side().place(), client.frames())
+        }
+        Whose::Server => {
+            let server = judging.server_side();
+            ("server", server.side().place(), server.frames())
+        }
+    };
+    let said = told(alloc, judging)?;
+    let mut out = format!(in alloc;
+        "{name} byte {place}: frame {number} is too long to be judged"
+    )?;
+    if !said.is_empty() {
+        out.push_str("\n")?;
+        out.push_str(&said)?;
     }
     Ok(out)
 }

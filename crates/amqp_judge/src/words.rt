@@ -2,7 +2,7 @@
 
 use crate::judging::Judging;
 use crate::side::Unjudged;
-use crate::telling::{told, verdict_line};
+use crate::telling::{Whose, told, told_too_long, verdict_line};
 use amqp_check::Verdict;
 use amqp_types::{NoMemory, Text};
 use std::alloc::{AllocGlobal, Global};
@@ -42,21 +42,21 @@ const NO_MEMORY: u8 = 7;
 /// How many octets are read at once.
 const BLOCK: usize = 65_536;
 
-/// Which side a file is of.
-#[derive(Clone, Copy)]
-enum Whose {
-    Client,
-    Server,
-}
-
 /// Why there is no verdict.
 #[derive(Clone, Copy)]
 enum Stop {
     /// The file of a side cannot be opened or read.
     Unread(Whose),
-    /// A frame is too long.
-    TooLong(Whose),
     NoMemory,
+}
+
+/// What both files are.
+#[derive(Clone, Copy)]
+enum Judged {
+    /// They have this verdict.
+    Known(Verdict),
+    /// One has a frame that is too long.
+    TooLong,
 }
 
 impl From<NoMemory> for Stop {
@@ -77,45 +77,47 @@ fn read_piece<F: Read>(file: &mut F, whose: Whose, block: &mut [u8]) -> Result<u
     Err(Stop::Unread(whose))
 }
 
-// Takes a piece of a side.
-fn take(judging: &mut Judging, alloc: Global, whose: Whose, piece: &[u8]) -> Result<(), Stop> {
+// Takes a piece of a side. Whether it was not too long.
+fn take(judging: &mut Judging, alloc: Global, whose: Whose, piece: &[u8]) -> Result<bool, Stop> {
     let taken = match whose {
         Whose::Client => judging.client(alloc, piece),
         Whose::Server => judging.server(alloc, piece),
     };
     match taken {
-        Ok(()) => Ok(()),
-        Err(Unjudged::TooLong) => Err(Stop::TooLong(whose)),
+        Ok(()) => Ok(true),
+        Err(Unjudged::TooLong) => Ok(false),
         Err(Unjudged::NoMemory) => Err(Stop::NoMemory),
     }
 }
 
-// Takes all of a file.
+// Takes all of a file, or up to what is too long. Whether that was all.
 fn take_all<F: Read>(
     judging: &mut Judging,
     alloc: Global,
     whose: Whose,
     file: &mut F,
     block: &mut [u8],
-) -> Result<(), Stop> {
+) -> Result<bool, Stop> {
     for _ in 0..u64::MAX {
         let n = read_piece(file, whose, block)?;
         if n == 0 {
-            return Ok(());
+            return Ok(true);
         }
-        take(judging, alloc, whose, block.get(..n).unwrap_or(&[]))?;
+        if !take(judging, alloc, whose, block.get(..n).unwrap_or(&[]))? {
+            return Ok(false);
+        }
     }
-    Ok(())
+    Ok(true)
 }
 
-// Takes both files.
+// Takes both files. The side that is too long, first the client's.
 fn take_both<R: Files>(
     rt: &R,
     alloc: Global,
     client: &str,
     server: &str,
     judging: &mut Judging,
-) -> Result<(), Stop> {
+) -> Result<Option<Whose>, Stop> {
     let mut block = match vec![in alloc; 0; BLOCK] {
         Ok(block) => block,
         Err(_) => return Err(Stop::NoMemory),
@@ -125,13 +127,18 @@ fn take_both<R: Files>(
     };
     let taken = take_all(judging, alloc, Whose::Client, &mut file, &mut block);
     drop(file);
-    taken?;
+    let is_client_whole = taken?;
     let Ok(mut file) = fs::open(rt, server) else {
         return Err(Stop::Unread(Whose::Server));
     };
     let taken = take_all(judging, alloc, Whose::Server, &mut file, &mut block);
     drop(file);
-    taken
+    let is_server_whole = taken?;
+    Ok(match (is_client_whole, is_server_whole) {
+        (false, _) => Some(Whose::Client),
+        (true, false) => Some(Whose::Server),
+        (true, true) => None,
+    })
 }
 
 // The verdict on both files, and what is said of it.
@@ -140,18 +147,35 @@ fn judged<R: Files>(
     alloc: Global,
     client: &str,
     server: &str,
-) -> Result<(Verdict, String), Stop> {
+) -> Result<(Judged, String), Stop> {
     let mut judging = Judging::new(alloc)?;
-    if let Err(stop) = take_both(rt, alloc, client, server, &mut judging) {
-        drop(judging);
-        return Err(stop);
+    match take_both(rt, alloc, client, server, &mut judging) {
+        Ok(Some(whose)) => Ok((Judged::TooLong, told_too_long(alloc, judging, whose)?)),
+        Ok(None) => {
+            let verdict = judging.verdict();
+            Ok((Judged::Known(verdict), told(alloc, judging)?))
+        }
+        Err(stop) => {
+            drop(judging);
+            Err(stop)
+        }
     }
-    let verdict = judging.verdict();
-    Ok((verdict, told(alloc, judging)?))
+}
+
+// Prints what is said of both files, and the verdict where there is one, and gives the status.
+fn print<R: Print + Eprint>(rt: &R, alloc: Global, judged: Judged, said: &str) -> u8 {
+    match judged {
+        Judged::Known(verdict) => print_verdict(rt, alloc, verdict, said),
+        Judged::TooLong => {
+            // The status tells it where standard error does not take it.
+            let _ = rt.eprintln(said);
+            TOO_LONG
+        }
+    }
 }
 
 // Prints a verdict and what is said of it, and gives the status.
-fn print<R: Print + Eprint>(rt: &R, alloc: Global, verdict: Verdict, said: &str) -> u8 {
+fn print_verdict<R: Print + Eprint>(rt: &R, alloc: Global, verdict: Verdict, said: &str) -> u8 {
     let Ok(line) = verdict_line(alloc, verdict) else {
         return NO_MEMORY;
     };
@@ -173,14 +197,6 @@ fn explain<R: Eprint>(rt: &R, stop: Stop) -> u8 {
     let (line, status) = match stop {
         Stop::Unread(Whose::Client) => ("the file of the client cannot be read", SOURCE_FAILED),
         Stop::Unread(Whose::Server) => ("the file of the server cannot be read", SOURCE_FAILED),
-        Stop::TooLong(Whose::Client) => (
-            "a frame of the client is too long to be judged",
-            TOO_LONG,
-        ),
-        Stop::TooLong(Whose::Server) => (
-            "a frame of the server is too long to be judged",
-            TOO_LONG,
-        ),
         Stop::NoMemory => ("memory was refused", NO_MEMORY),
     };
     // The status tells it where standard error does not take it.
@@ -215,7 +231,7 @@ pub fn run<R: Files + Print + Eprint>(rt: &R, alloc: Global, words: &[Text]) -> 
     match words {
         [word] if wants_help(word) => help(rt),
         [client, server] => match judged(rt, alloc, client.as_str(), server.as_str()) {
-            Ok((verdict, said)) => print(rt, alloc, verdict, &said),
+            Ok((judged, said)) => print(rt, alloc, judged, &said),
             Err(stop) => explain(rt, stop),
         },
         _ => {

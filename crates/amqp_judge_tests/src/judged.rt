@@ -2,7 +2,7 @@
 
 use crate::support::octets;
 use amqp_check::check;
-use amqp_judge::{Judging, Unjudged, told, verdict_line};
+use amqp_judge::{Judging, MOST_UNREAD, Unjudged, Whose, told, told_too_long, verdict_line};
 use amqp_types::NoMemory;
 use amqp_vectors::{
     CHANNEL_OPEN_1, CLOSE, HEADER, HEARTBEAT, METHOD_1, OPEN, START, START_OK, TUNE_OK,
@@ -132,5 +132,88 @@ fn first_other(alloc: Global) -> Result<Option<&'static str>, NoMemory> {
 #[test]
 fn what_is_wrong_with_a_link_is_said(rt: HostRuntime) -> Result<(), NoMemory> {
     assert_eq!(rt; first_other(rt.alloc())?, None);
+    Ok(())
+}
+
+// The head of a body frame that says that it has 2 GiB.
+const TWO_GIB: &str = "03 0001 7fffffff";
+
+/// What is said where the client's frame 2 is too long, its frame 1 may not be said, and the server closed channel 1.
+const OF_THE_CLIENT: &str = "client byte 16: frame 2 is too long to be judged
+client byte 16: a frame begins here, and is not all there
+octets: 03 00 01 7f ff ff ff
+7 of its 2147483655 octets are there
+client byte 8: frame 1 is a heartbeat
+said so far: the protocol header
+start-ok comes next
+the server closed channel 1 in its frame 0: 404 no q (queue.declare 50.10)";
+
+/// What is said where the server's frame 1 is too long.
+const OF_THE_SERVER: &str = "server byte 105: frame 1 is too long to be judged
+server byte 105: a frame begins here, and is not all there
+octets: 03 00 01 7f ff ff ff
+7 of its 2147483655 octets are there
+the client's whole frames are a legal conversation";
+
+// What is said of both sides, of which the one gets more octets than are kept behind these.
+fn said_of_too_long(
+    alloc: Global,
+    client: &[&'static str],
+    server: &[&'static str],
+    whose: Whose,
+) -> Result<Option<String>, NoMemory> {
+    let client = octets(alloc, client)?;
+    let server = octets(alloc, server)?;
+    let more = Vec::from_elem(alloc, 0u8, MOST_UNREAD)?;
+    let mut judging = Judging::new(alloc)?;
+    let begun = take(alloc, &mut judging, &client, &server, 300);
+    let taken = match whose {
+        Whose::Client => judging.client(alloc, &more),
+        Whose::Server => judging.server(alloc, &more),
+    };
+    let said = told_too_long(alloc, judging, whose)?;
+    if begun == Ok(()) && taken == Err(Unjudged::TooLong) {
+        return Ok(Some(said));
+    }
+    drop(said);
+    Ok(None)
+}
+
+// Whether this is said of both sides, of which one is too long.
+fn is_said_of_too_long(
+    alloc: Global,
+    client: &[&'static str],
+    server: &[&'static str],
+    whose: Whose,
+    wanted: &str,
+) -> Result<bool, NoMemory> {
+    match said_of_too_long(alloc, client, server, whose)? {
+        Some(said) => Ok(said.as_str() == wanted),
+        None => Ok(false),
+    }
+}
+
+#[test]
+fn what_is_found_before_a_frame_that_is_too_long_is_said(rt: HostRuntime) -> Result<(), NoMemory> {
+    let client = [HEADER, HEARTBEAT, TWO_GIB];
+    assert!(rt;
+        is_said_of_too_long(
+            rt.alloc(),
+            &client,
+            &[CLOSED_1],
+            Whose::Client,
+            OF_THE_CLIENT
+        )?
+    );
+    let server = [START, TWO_GIB];
+    assert!(rt;
+        is_said_of_too_long(
+            rt.alloc(),
+            &[HEADER, START_OK],
+            &server,
+            Whose::Server,
+            OF_THE_SERVER
+        )?
+    );
     Ok(())
 }

@@ -3,7 +3,7 @@
 use crate::support::octets;
 use amqp_double::Double;
 use amqp_double_port::{line_of, told};
-use amqp_double_socket::{Ended, serve};
+use amqp_double_socket::{Counted, Ended, serve};
 use amqp_settings::Configuration;
 use amqp_types::NoMemory;
 use amqp_vectors::{
@@ -75,12 +75,14 @@ fn is_said(alloc: Global, row: &Row) -> Result<bool, NoMemory> {
     let client = octets(alloc, row.client)?;
     let answered = octets(alloc, row.answered)?;
     let mut double = Double::new(alloc, NUMBERS)?;
-    let mut reader: &[u8] = &client;
-    let mut writer: Vec<u8> = Vec::new(alloc);
+    let reader: &[u8] = &client;
+    let mut reader = Counted::new(reader);
+    let mut writer: Counted<Vec<u8>> = Counted::new(Vec::new(alloc));
     let ended = serve(alloc, &mut double, &mut reader, &mut writer);
     let is_told = is_told(alloc, row, ended, double.client());
     drop(double);
-    Ok(is_told? && writer.as_slice().ends_with(&answered))
+    let written = writer.into_stream();
+    Ok(is_told? && written.as_slice().ends_with(&answered))
 }
 
 // The line of the first row of which something else is said.

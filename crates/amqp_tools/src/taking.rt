@@ -1,12 +1,12 @@
 //! Which messages of a queue were printed, acknowledged, and are known to be acknowledged.
 
-ghost use Rattle.std.specs.Prelude.{◌≡◌, ◌≢◌, ◌||◌, nat_lt, true, None, IfOk, OnOk, length, option_map};
+ghost use Rattle.std.specs.Prelude.{◌≡◌, ◌≢◌, ◌⊎◌, ◌||◌, nat_lt, true, false, None, IfOk, OnOk, Err, length, option_map};
 ghost use Rattle.amqp_tools.specs.Taking.{nothing_taken, left, still_unsent, may_come_again, is_done, standing};
 ghost use Rattle.amqp_tools.specs.Taking.{settled_unknown, settled_all, found_again, looked_at};
 ghost use Rattle.amqp_tools.specs.Taking.{coming_by, coming_at, come_by, come_as, name_in, is_none_left, steps_of};
 ghost use Rattle.amqp_tools.specs.Tags.{may};
 ghost use Rattle.amqp_tools.specs.Acknowledged.{Does, beginning, is_known, kept_with};
-ghost use Rattle.amqp_tools.specs.Sink.{give_more, delimited};
+ghost use Rattle.amqp_tools.specs.Sink.{give_more, delimited, count_faults, HasNoLength};
 ghost use Rattle.amqp_tools.specs.declared.taking.Coming.TheVariants.{Wanted, Named};
 ghost use Rattle.amqp_tools.specs.declared.tags.Deed.TheVariants.{Printed};
 
@@ -44,6 +44,11 @@ pub enum Untaken {
 }
 
 impl From<NoMemory> for Untaken {
+    ghost use Rattle.std.specs.Prelude.{◌≡◌};
+    ghost use Rattle.amqp_tools.specs.declared.taking.Untaken.TheVariants as why;
+
+    ghost from_gives = { λ _ e. e ≡ why.NoMemory };
+
     fn from(_refused: NoMemory) -> Untaken {
         Untaken::NoMemory
     }
@@ -205,6 +210,9 @@ impl Taking {
         ensures other { IfOk result (λ what. what ≢ Wanted → S.page sink.new ≡ S.page sink.old) }
         ensures does { IfOk result (λ what. Does (standing self.old)
             (steps_of what delivery.entry.tag (name_in delivery.entry)) (standing self.new)) }
+        ensures unwritten { result ≡ Err Untaken.Unwritten
+            → (S.faults sink.new ≡ count_faults false (S.faults sink.old))
+            ⊎ HasNoLength framing delivery.entry.body.now }
     {
         if !self.tags.may_come(delivery.tag) {
             return Ok(Coming::Astray);
@@ -239,6 +247,9 @@ impl Taking {
         ensures printed { IfOk result (λ what. what ≡ Wanted
             → S.page sink.new ≡ option_map (give_more (delimited framing delivery.entry.body.now)) (S.page sink.old)) }
         ensures other { IfOk result (λ what. what ≢ Wanted → S.page sink.new ≡ S.page sink.old) }
+        ensures unwritten { result ≡ Err Untaken.Unwritten
+            → (S.faults sink.new ≡ count_faults false (S.faults sink.old))
+            ⊎ HasNoLength framing delivery.entry.body.now }
     {
         if self.is_over() {
             self.tags.pass_over(delivery.tag);
@@ -277,6 +288,9 @@ impl Taking {
             ≡ come_as Wanted delivery.entry.tag mark (name_in delivery.entry) self.old) }
         ensures printed { OnOk result
             (S.page sink.new ≡ option_map (give_more (delimited framing delivery.entry.body.now)) (S.page sink.old)) }
+        ensures unwritten { result ≡ Err Untaken.Unwritten
+            → (S.faults sink.new ≡ count_faults false (S.faults sink.old))
+            ⊎ HasNoLength framing delivery.entry.body.now }
     {
         self.know(delivery.tag, mark)?;
         if !print(sink, framing, delivery.body) {

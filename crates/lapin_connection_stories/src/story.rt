@@ -99,31 +99,6 @@ fn built<R: Threads + Wait + Clock + Copy + Send + Drop + 'static>(
     connection
 }
 
-// A connection by a builder, with these options.
-fn built_with<R: Threads + Wait + Clock + Copy + Send + Drop + 'static>(
-    rt: R,
-    alloc: Global,
-    spawner: GateSpawner<R>,
-    options: ConnectionProperties,
-) -> Result<Connection> {
-    match AMQPUri::local(alloc) {
-        Ok(uri) => {
-            let mut builder = ConnectionBuilder::new_with_runtime(spawner)
-                .with_properties(options)
-                .with_uri(uri)
-                .keeping_the_journal();
-            let connection = builder.connect(rt, alloc);
-            drop(builder);
-            connection
-        }
-        Err(refused) => {
-            drop(spawner);
-            drop(options);
-            Err(refused.into())
-        }
-    }
-}
-
 // A connection by a builder, where two events wait at most, and two frames of each channel.
 fn bounded<R: Threads + Wait + Clock + Copy + Send + Drop + 'static>(
     rt: R,

@@ -1,10 +1,10 @@
 //! What is acknowledged, and known to be.
 
-ghost use Rattle.std.specs.Prelude.{◌≡◌, ◌++◌, ◌≤◌, ◌∷◌, [], true, None, IfOk, OnOk, length, take, option_map};
+ghost use Rattle.std.specs.Prelude.{◌≡◌, ◌++◌, ◌≤◌, ◌∷◌, [], true, false, None, IfOk, OnOk, Err, length, take, option_map};
 ghost use Rattle.amqp_tools.specs.Taking.{standing, recent, wants_to_ask, flow_asked, flow_answered, lost_link};
 ghost use Rattle.amqp_tools.specs.Taking.{tag_to_acknowledge, acknowledged, steps_to_acknowledge};
 ghost use Rattle.amqp_tools.specs.Acknowledged.{Does};
-ghost use Rattle.amqp_tools.specs.Sink.{take_if};
+ghost use Rattle.amqp_tools.specs.Sink.{take_if, count_faults};
 ghost use Rattle.amqp_tools.specs.declared.tags.Deed.TheVariants.{Lost};
 
 use super::{Taking, Untaken};
@@ -23,6 +23,8 @@ impl Taking {
         ensures new { OnOk result (self.new ≡ acknowledged self.old) }
         ensures taken { OnOk result (S.page sink.new ≡ option_map (take_if true) (S.page sink.old)) }
         ensures does { IfOk result (λ tag. Does (standing self.old) (steps_to_acknowledge tag) (standing self.new)) }
+        ensures unwritten { result ≡ Err Untaken.Unwritten
+            → S.faults sink.new ≡ count_faults false (S.faults sink.old) }
     {
         if !sink.flush() {
             return Err(Untaken::Unwritten);

@@ -1,4 +1,5 @@
 -- What was sent so far are the first octets of what had not been sent.
+use Rattle.std.proofs.Common.{◌≤◌}
 use Rattle.amqp_double.specs.Doubles.{AnswersClient}
 use Rattle.amqp_double_socket.specs.Serving.{Sends}
 use Rattle.amqp_double_socket.proofs.serving.say.Given as goal
@@ -6,5 +7,6 @@ use Rattle.amqp_double_socket.proofs.serving.say.Given as goal
 abbrev pub invariant-octets : goal.invariant-octets
 invariant-octets g l = record {
   answers : AnswersClient l.double;
-  sends : Sends l.fn.double l.double (g.W.Write.contents l.fn.writer) (g.W.Write.contents l.writer);
+  rises : l.fn.writer.faults ≤ l.writer.faults;
+  sends : Sends l.fn.double l.double (g.W.Write.contents l.fn.writer.stream) (g.W.Write.contents l.writer.stream);
 }

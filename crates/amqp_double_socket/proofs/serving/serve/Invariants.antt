@@ -1,5 +1,5 @@
 -- All that was read so far was fed, and all that was said was written.
-use Rattle.std.proofs.Common.{◌≡◌, None}
+use Rattle.std.proofs.Common.{◌≡◌, ◌≤◌, None}
 use Rattle.amqp_double.specs.Doubles.{AnswersClient}
 use Rattle.amqp_double_socket.specs.Serving.{HasSentAll, HasWritten, FeedsOn}
 use Rattle.amqp_double_socket.proofs.serving.serve.Given as goal
@@ -8,7 +8,9 @@ abbrev pub invariant-pieces : goal.invariant-pieces
 invariant-pieces g l = record {
   answers : AnswersClient l.double;
   all : HasSentAll l.double;
-  written : HasWritten l.fn.double l.double (g.W.Write.contents l.fn.writer) (g.W.Write.contents l.writer);
-  heard : FeedsOn l.fn.double l.double (g.R.Read.remaining l.fn.reader) (g.R.Read.remaining l.reader);
+  written : HasWritten l.fn.double l.double (g.W.Write.contents l.fn.writer.stream) (g.W.Write.contents l.writer.stream);
+  heard : FeedsOn l.fn.double l.double (g.R.Read.remaining l.fn.reader.stream) (g.R.Read.remaining l.reader.stream);
+  reads : l.fn.reader.faults ≤ l.reader.faults;
+  writes : l.fn.writer.faults ≤ l.writer.faults;
   unrefused : l.fn.double.refusal ≡ None → l.double.refusal ≡ None;
 }
