@@ -354,8 +354,9 @@ impl Client {
             Err(error) => Err(Stop::Failed(error)),
         }
     }
-    /// Closes the connection, however that ends. Where its broker was waited for in vain it is given up, and nothing more
-    /// is waited for.
+
+    /// Closes the connection, however that ends. Where its broker was waited for in vain it is given up, and nothing
+    /// more is waited for.
     pub fn leave<R: Wait + Clock>(self, rt: &R, alloc: Global, is_silent: bool) {
         if is_silent {
             let _told = self.connection.abandon();

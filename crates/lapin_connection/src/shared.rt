@@ -26,8 +26,8 @@ use std::time::{Clock, Duration};
 // For so many microseconds callers gather before a turn.
 const GATHERS: u64 = 50;
 
-// In so many holds what waits to be taken is bounded after a turn, each of 64 events: no more than 341 come by the 4,096
-// octets of a piece.
+// In so many holds what waits to be taken is bounded after a turn, each of 64 events: no more than 341 come by the
+// 4,096 octets of a piece.
 const BOUNDS: usize = 6;
 
 /// What the handles of a connection share: what lies under the lock, and beside it what wakes those who
