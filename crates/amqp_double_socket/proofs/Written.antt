@@ -1,11 +1,11 @@
 -- What is written and what is fed, step by step.
-use Rattle.std.proofs.Common.{◌≡◌, ◌≤◌, ◌+◌, ℕ, List, [], ◌++◌, length, take, drop, Option, Some, None, ap, sym, refl, ◌∙◌, subst, arith, append_assoc, append-nil, length-append, length-drop, take-append-drop}
+use Rattle.std.proofs.Common.{◌≡◌, ◌≤◌, ◌+◌, ℕ, List, [], ◌++◌, length, take, drop, Option, None, ap, sym, refl, ◌∙◌, subst, arith, append_assoc, append-nil, length-append, length-drop, take-append-drop}
 use Rattle.std.proofs.lemmas.Grind.{common_steps}
 use Rattle.std.proofs.lemmas.List.{drop-drop}
 use Rattle.std.proofs.KnownBytes.{Appends-nil, Appends-trans, Appends-kept, Consumes-nil, Consumes-trans}
-use Rattle.std.specs.Io.KnownBytes.{Appends, Consumes, Keeps}
-use Rattle.amqp_double.specs.Doubles.{DoubleState, AnswersClient, HasAnswered}
-use Rattle.amqp_double_socket.specs.Serving.{HasSentAll, HasWritten, Sends, WasFed, FeedsOn}
+use Rattle.std.specs.Io.KnownBytes.{Appends, Keeps}
+use Rattle.amqp_double.specs.Doubles.{DoubleState, AnswersClient}
+use Rattle.amqp_double_socket.specs.Serving.{HasSentAll, HasWritten, Sends, FeedsOn}
 
 -- of a double of which so many octets more were sent
 abbrev pub sent_more : ℕ → DoubleState → DoubleState

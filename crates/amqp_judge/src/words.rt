@@ -142,7 +142,7 @@ fn take_both<R: Files>(
 }
 
 // The verdict on both files, and what is said of it.
-fn judged<R: Files>(
+fn judge_files<R: Files>(
     rt: &R,
     alloc: Global,
     client: &str,
@@ -230,7 +230,7 @@ fn help<R: Print>(rt: &R) -> u8 {
 pub fn run<R: Files + Print + Eprint>(rt: &R, alloc: Global, words: &[Text]) -> u8 {
     match words {
         [word] if wants_help(word) => help(rt),
-        [client, server] => match judged(rt, alloc, client.as_str(), server.as_str()) {
+        [client, server] => match judge_files(rt, alloc, client.as_str(), server.as_str()) {
             Ok((judged, said)) => print(rt, alloc, judged, &said),
             Err(stop) => explain(rt, stop),
         },

@@ -1,4 +1,4 @@
-use Rattle.std.proofs.Common.{◌≡◌, ◌≤◌, arith, List, ℕ, ◌∙◌, subst, length, take}
+use Rattle.std.proofs.Common.{◌≤◌, arith, ◌∙◌, subst, length, take}
 use Rattle.std.specs.Io.KnownBytes.{Appends}
 use Rattle.amqp_double_socket.proofs.Written.{Sends-then, Sends-kept, AnswersClient-then}
 use Rattle.amqp_double.specs.Doubles.{AnswersClient}
