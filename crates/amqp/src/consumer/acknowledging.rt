@@ -1,12 +1,12 @@
 //! How who consumes acknowledges, and comes to know that the broker has read that.
 
 use super::{Consumer, MOST_UNACKNOWLEDGED, tag, untaken};
-use amqp_client::{Client, LIMIT, Stop, within};
+use amqp_client::{Client, LIMIT, Stop};
 use amqp_methods::{BasicAckOptions, BasicQosOptions, basic_ack, basic_cancel, basic_qos};
 use amqp_tools::Sink;
 use lapin_connection::Pending;
 use std::sync::Wait;
-use std::time::Clock;
+use std::time::{Clock, Duration};
 
 impl Consumer<'_> {
     // Acknowledges what was printed, once it is written. The broker is told before how few may come after it.
@@ -114,12 +114,15 @@ impl Consumer<'_> {
 
 // Waits until this is answered, and says whether it is: not where the link is gone, which is told otherwise.
 fn is_answered<R: Wait + Clock>(rt: &R, asked: &Pending<bool>) -> Result<bool, Stop> {
-    match within(rt, asked, LIMIT, "answer for what was acknowledged") {
+    let Some(answer) = asked.wait_for(rt, Duration::from_secs(LIMIT)) else {
+        return Err(Stop::Silent("answer for what was acknowledged", LIMIT));
+    };
+    match answer {
         Ok(_active) => Ok(true),
-        Err(Stop::Failed(error)) if error.can_be_recovered() => {
+        Err(error) if error.can_be_recovered() => {
             drop(error);
             Ok(false)
         }
-        Err(stop) => Err(stop),
+        Err(error) => Err(Stop::Failed(error)),
     }
 }
