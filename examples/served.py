@@ -364,6 +364,11 @@ class Server:
         return [number for link in self.links for number in link.numbers]
 
     def close(self):
+        # who waits in accept would take one link more
+        try:
+            self.listener.shutdown(socket.SHUT_RDWR)
+        except OSError:
+            pass
         self.listener.close()
 
 
